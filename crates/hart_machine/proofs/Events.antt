@@ -1,0 +1,99 @@
+-- What a hart's event makes of the world, of its progress and of the switches' cycles.
+use Rattle.std.proofs.Common.{◌≡◌, ℕ, suc, Bool, true, false, true≢false, ltb, [], ◌∷◌, ◌++◌, ap, sym, ◌∙◌, refl}
+use Rattle.std.specs.Prelude.{if◌then◌else◌}
+use Rattle.sched_table.specs.Schedule.{switch_entry, place_on}
+use Rattle.image_check.specs.Image.{Image}
+use Rattle.world_view.specs.Machine.{World, clock_of, with_part, with_hart, guarded, switch_on, cycles_on}
+use Rattle.world_view.specs.Harts.{Harts, Progress, image_on, end_on, progress_of, slots_of, proceeds, begins, runs, goes_on, next}
+use Rattle.world_view.proofs.harts.Runs.{progress-same}
+use Rattle.world_view.proofs.harts.Clocks.{begun_world}
+
+-- in its slot k still, or past its end
+abbrev pub stands : ℕ → Bool → Progress
+stands k true = record { slots = k; inside = true }
+stands k false = record { slots = suc k; inside = false }
+
+pub stands_goes : (k : ℕ) (b : Bool) → (stands k b).inside ≡ true → (stands k b).slots ≡ k
+stands_goes k true e = refl
+stands_goes k false e = absurd (true≢false (sym e))
+
+pub stands_ends : (k : ℕ) (b : Bool) → (stands k b).inside ≡ false → (stands k b).slots ≡ suc k
+stands_ends k true e = absurd (true≢false e)
+stands_ends k false e = refl
+
+module _ (i : Image) (h : ℕ) (s : Harts) where
+  abbrev k : ℕ
+  k = slots_of h s
+
+  abbrev pub ran : World
+  ran = runs i h k s.world
+
+  -- whether its slot goes on
+  abbrev pub is_early : Bool
+  is_early = ltb (clock_of h ran) (end_on i h k)
+
+  works : (progress_of h s).inside ≡ true → next i h s ≡ goes_on i h s
+  unfolding next
+  works now = ap (λ (b : Bool). if b then goes_on i h s else begins i h s) now
+
+  turns : (progress_of h s).inside ≡ false → next i h s ≡ begins i h s
+  unfolding next
+  turns out = ap (λ (b : Bool). if b then goes_on i h s else begins i h s) out
+
+  -- ---- an event of a slot
+
+  world_if : (b : Bool) → (if b then proceeds h s ran k true else proceeds h s ran (suc k) false).world ≡ ran
+  unfolding proceeds
+  world_if true = refl
+  world_if false = refl
+
+  progress_if : (b : Bool)
+      → progress_of h (if b then proceeds h s ran k true else proceeds h s ran (suc k) false) ≡ stands k b
+  progress_if true = progress-same h s ran k true
+  progress_if false = progress-same h s ran (suc k) false
+
+  pub works_world : (progress_of h s).inside ≡ true → (next i h s).world ≡ ran
+  unfolding goes_on
+  works_world now = ap (λ (t : Harts). t.world) (works now) ∙ world_if is_early
+
+  pub works_progress : (progress_of h s).inside ≡ true → progress_of h (next i h s) ≡ stands k is_early
+  unfolding goes_on
+  works_progress now = ap (progress_of h) (works now) ∙ progress_if is_early
+
+  ran_used : ran.used ≡ s.world.used
+  unfolding runs with_part with_hart
+  ran_used = refl
+
+  pub works_used : (progress_of h s).inside ≡ true → (next i h s).world.used ≡ s.world.used
+  works_used now = ap (λ (w : World). w.used) (works_world now) ∙ ran_used
+
+  -- ---- a switch
+
+  begins_world : (begins i h s).world ≡ begun_world i h s
+  unfolding begins proceeds
+  begins_world = refl
+
+  begins_progress : progress_of h (begins i h s) ≡ record { slots = k; inside = true }
+  unfolding begins
+  begins_progress = progress-same h s (begun_world i h s) k true
+
+  pub turns_world : (progress_of h s).inside ≡ false → (next i h s).world ≡ begun_world i h s
+  turns_world out = ap (λ (t : Harts). t.world) (turns out) ∙ begins_world
+
+  pub turns_progress : (progress_of h s).inside ≡ false → progress_of h (next i h s) ≡ record { slots = k; inside = true }
+  turns_progress out = ap (progress_of h) (turns out) ∙ begins_progress
+
+  -- to which entry it belongs, and its cycles
+  abbrev pub place : ℕ → ℕ
+  place n = place_on i.all.schedule h (switch_entry (image_on i h).all.schedule n)
+
+  abbrev pub cycles : ℕ → World → ℕ
+  cycles n w = cycles_on (guarded (image_on i h)) (image_on i h) h n w
+
+  begun_used : (begun_world i h s).used ≡ s.world.used ++ (place k, cycles k s.world) ∷ []
+  unfolding switch_on with_hart
+  begun_used = refl
+
+  pub turns_used : (progress_of h s).inside ≡ false
+      → (next i h s).world.used ≡ s.world.used ++ (place k, cycles k s.world) ∷ []
+  turns_used out = ap (λ (w : World). w.used) (turns_world out) ∙ begun_used

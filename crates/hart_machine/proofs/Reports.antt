@@ -1,0 +1,74 @@
+-- Slot by slot an image's harts report what they report event by event.
+use Rattle.std.proofs.Common.{◌≡◌, ℕ, ◌<◌, List, [], ◌∷◌, ap, sym, refl, subst, arith}
+use Rattle.std.proofs.lemmas.List.Elements.{All-nil}
+use Rattle.event_orders.specs.Orders as orders
+use Rattle.event_orders.specs.Orders.{all_counted}
+use Rattle.event_orders.specs.Laws.{Alike, AreBetween, SameEnd, none_owed}
+use Rattle.event_orders.proofs.Ends.{ends_law}
+use Rattle.event_orders.proofs.Slots.{slots_law}
+use Rattle.event_orders.proofs.Sorted.{sorted_law}
+use Rattle.event_orders.proofs.Drawn.{counted_law}
+use Rattle.image_check.specs.Image.{Image, own_of}
+use Rattle.image_check.specs.Laws.{Runnable}
+use Rattle.sched_table.specs.Schedule.{harts_in}
+use Rattle.world_view.specs.Machine.{Hart}
+use Rattle.world_view.specs.Harts.{Harts, Progress, hart_of_domain, next, after, harts, view_on}
+use Rattle.world_view.proofs.runs.WholeLaws.{same_view}
+use Rattle.world_view.proofs.harts.Runs.{home}
+use Rattle.world_view.proofs.harts.Isolation.{at_first}
+use Rattle.hart_machine.specs.HartMachine.{IsReached, machine_of}
+use Rattle.hart_machine.specs.Laws.{SameReport, enough, event_by_event, slot_by_slot, ThroughLaw, SlotBySlotLaw, SwitchOrderLaw, CountedOffLaw}
+use Rattle.hart_machine.proofs.IsMachine.{is_machine}
+
+module _ (i : Image) (r : Runnable i) where
+  -- worlds that are equal in each part
+  same_report : (s t : Harts) → Alike (machine_of i) s t → SameReport i s t
+  unfolding view_on
+  same_report s t a = record {
+    seen = λ d id.
+        let same = (a.each (hart_of_domain i d) (home i r d)).parts.domains d id refl in
+        same_view i.all.hardware (own_of i d) _ _ _ _ same.dom same.part.frames;
+    used = a.shared.used;
+    clocks = λ h there. ap (λ (x : Hart). x.clock) (a.each h there).parts.hart;
+  }
+
+  -- before the first event
+  first_reached : IsReached i (harts i [])
+  first_reached =
+      record { order = []; of_harts = All-nil (λ (g : ℕ). g < harts_in i.all.schedule); comes_to = refl }
+
+  first_between : AreBetween (machine_of i) (harts i [])
+  first_between h there = ap (λ (x : Progress). x.inside) (at_first i r h)
+
+-- an order's events are the same by both names
+after_is : (i : Image) (order : List ℕ) (s : Harts) → orders.after (machine_of i) order s ≡ after i order s
+unfolding orders.after after
+after_is i [] s = refl
+after_is i (h ∷ hs) s = after_is i hs (next i h s)
+
+harts_are : (i : Image) (order : List ℕ) → orders.after (machine_of i) order (harts i []) ≡ harts i order
+unfolding harts after
+harts_are i order = after_is i order (harts i [])
+
+pub through : ThroughLaw
+through i n r = ends_law (machine_of i) (is_machine i r) n (enough i n) (harts i []) (first_reached i r) (omega arith)
+
+pub slot_by_slot_law : SlotBySlotLaw
+slot_by_slot_law i n r =
+    let both = slots_law (machine_of i) (is_machine i r) n (enough i n) (harts i []) (first_reached i r) (first_between i r)
+    (through i n r) in
+    (same_report i r (event_by_event i n).world (slot_by_slot i n).world both.0, both.1)
+
+pub switch_order : SwitchOrderLaw
+switch_order i n r =
+    sorted_law (machine_of i) (is_machine i r) n (enough i n) (harts i []) (first_reached i r) (first_between i r)
+
+pub counted_off : CountedOffLaw
+counted_off i order r below between =
+    let m = machine_of i in
+    let s = all_counted m order (none_owed (harts i [])) in
+    let end : SameEnd m (harts i order) s =
+    subst (λ (w : Harts). SameEnd m w s) (harts_are i order)
+    (counted_law m (is_machine i r) order (harts i []) below (first_reached i r) (first_between i r)
+    (subst (AreBetween m) (sym (harts_are i order)) between)) in
+    (same_report i r (harts i order) s.world end.alike, end.paid)

@@ -1,0 +1,74 @@
+-- An event of a slot, from two worlds that are the same for its hart.
+use Rattle.std.proofs.Common.{◌≡◌, ◌≢◌, ◌⊎◌, inl, inr, ℕ, ◌<◌, true, ap, sym, ◌∙◌, refl, subst}
+use Rattle.std.proofs.lemmas.Bool.{cases_eq}
+use Rattle.sched_table.specs.Schedule.{harts_in}
+use Rattle.hardware_check.specs.Hardware.{Hardware}
+use Rattle.image_check.specs.Image.{Image, own_of}
+use Rattle.image_check.specs.Laws.{Runnable}
+use Rattle.world_view.specs.Machine.{Hart, World, hart_of, caches_of, dom_of, part_of, setting, step}
+use Rattle.world_view.specs.Relations.{IsDomain, HasFacts, Resident, Within, Apiece}
+use Rattle.world_view.specs.Harts.{domain_in, end_on, hart_of_domain, runs}
+use Rattle.world_view.proofs.harts.OnHart.{separated_on, hart_is}
+use Rattle.world_view.proofs.harts.Events.{IsInside, ran-hart, step_leaves}
+use Rattle.world_view.proofs.harts.Meets.{within_trans, apiece_trans, moved}
+use Rattle.hart_machine.specs.HartMachine.{SameParts}
+use Rattle.hart_machine.proofs.Equal.{within_itself, within_back, apiece_back, apiece_of, same_hart_by, near}
+
+module _ (i : Image) (r : Runnable i) (h : ℕ) (is : h < harts_in i.all.schedule) (k : ℕ) where
+  abbrev p : Hardware
+  p = i.all.hardware
+
+  -- whose slot it is
+  abbrev its : ℕ
+  its = domain_in i h k
+
+  named : IsDomain i its
+  named = (separated_on i r h is).named k
+
+  -- a world in which the hart is in its slot k
+  pub record IsIn (w : World) : Type 0 where
+    pub inside : IsInside i h k w
+    pub facts : HasFacts p (own_of i its) (dom_of w its) w.storage
+    pub there : Resident p (caches_of h w)
+
+  module _ (w v : World) (a : IsIn w) (b : IsIn v) (same : SameParts i h w v) where
+    abbrev w' : World
+    w' = runs i h k w
+
+    abbrev v' : World
+    v' = runs i h k v
+
+    -- of the domain whose slot it is: each is as the step of the same state where the kernel's lines are pinned
+    own_same : Within p (own_of i its) (part_of h its w') (part_of h its v')
+    own_same =
+        let alone = step (setting p (own_of i its) true) (end_on i h k) (part_of h its v) in
+        within_trans p (own_of i its) (part_of h its w') alone (part_of h its v')
+        (moved i h its r is named k w a.inside a.facts a.there refl (part_of h its v) (near i h w v same its named (hart_is i r h is k)))
+        (within_back p (own_of i its) (part_of h its v') alone
+        (moved i h its r is named k v b.inside b.facts b.there refl (part_of h its v)
+        (within_itself p (own_of i its) (part_of h its v))))
+
+    others_left : (u : World) → IsIn u → (d : ℕ) → IsDomain i d → d ≢ its
+        → Apiece p (own_of i d) (part_of h d (runs i h k u)) (part_of h d u)
+    others_left u c d id other =
+        let left = step_leaves i r h is k u c.inside c.facts d id other in record { dom = left.0; part = left.1 }
+
+    domain_if : (d : ℕ) → IsDomain i d → hart_of_domain i d ≡ h → (d ≡ its) ⊎ (d ≢ its)
+        → Apiece p (own_of i d) (part_of h d w') (part_of h d v')
+    domain_if d id home (inl own) =
+        subst (λ (e : ℕ). Apiece p (own_of i e) (part_of h e w') (part_of h e v')) (sym own)
+        (apiece_of p (own_of i its) (part_of h its w') (part_of h its v') own_same)
+    domain_if d id home (inr other) =
+        apiece_trans p (own_of i d) (part_of h d w') (part_of h d w) (part_of h d v') (others_left w a d id other)
+        (apiece_trans p (own_of i d) (part_of h d w) (part_of h d v) (part_of h d v') (same.domains d id home)
+        (apiece_back p (own_of i d) (part_of h d v') (part_of h d v) (others_left v b d id other)))
+
+    ended_left : (u : World) → IsIn u → (hart_of h (runs i h k u)).ended ≡ (hart_of h u).ended
+    ended_left u c = ap (λ (x : Hart). x.ended) (ran-hart i r h is k u c.inside c.facts)
+
+    pub runs_same : SameParts i h w' v'
+    runs_same = record {
+      hart = same_hart_by (hart_of h w') (hart_of h v') own_same.core own_same.clock
+          (ended_left w a ∙ ap (λ (x : Hart). x.ended) same.hart ∙ sym (ended_left v b));
+      domains = λ d id home. domain_if d id home (cases_eq d its);
+    }

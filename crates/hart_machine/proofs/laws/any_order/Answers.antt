@@ -1,0 +1,5 @@
+use Rattle.hart_machine.proofs.Reports.{counted_off}
+use Rattle.hart_machine.proofs.laws.any_order.Goals as goal
+
+pub returns : goal.returns
+returns c = record { counted = counted_off }

@@ -1,0 +1,5 @@
+use Rattle.hart_machine.proofs.Reports.{through, slot_by_slot_law, switch_order}
+use Rattle.hart_machine.proofs.laws.slots.Goals as goal
+
+pub returns : goal.returns
+returns c = record { through = through; same = slot_by_slot_law; order = switch_order }

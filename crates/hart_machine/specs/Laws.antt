@@ -1,0 +1,74 @@
+-- The laws of an image's harts slot by slot; they are the clauses of functions of `laws`.
+use Rattle.std.specs.Prelude.{◌≡◌, ℕ, ◌<◌, List, []}
+use Rattle.event_orders.specs.Orders.{Ran, by_events, by_slots, cycles_left, owed_of, all_counted}
+use Rattle.event_orders.specs.Laws as laws
+use Rattle.event_orders.specs.Laws.{AreBetween, AreThrough, none_owed}
+use Rattle.image_check.specs.Image.{Image}
+use Rattle.image_check.specs.Laws.{Runnable}
+use Rattle.sched_table.specs.Schedule.{harts_in}
+use Rattle.world_view.specs.Machine.{clock_of}
+use Rattle.world_view.specs.Relations.{IsDomain}
+use Rattle.world_view.specs.Harts.{Harts, harts, view_on}
+use Rattle.world_view.specs.HartLaws.{AreHartsOf}
+use Rattle.hart_machine.specs.HartMachine.{machine_of}
+
+-- ---- by the least clock, from the first event until each hart has had n slots
+
+-- so many events are enough
+abbrev pub enough : Image → ℕ → ℕ
+enough i n = cycles_left (machine_of i) n (harts i []) (harts_in i.all.schedule)
+
+abbrev pub event_by_event : Image → ℕ → Ran Harts
+event_by_event i n = by_events (machine_of i) n (enough i n) (harts i [])
+
+abbrev pub slot_by_slot : Image → ℕ → Ran Harts
+slot_by_slot i n = by_slots (machine_of i) n (enough i n) (harts i [])
+
+-- all that a report tells: what is seen of each domain, what each switch took, in their order, and each hart's clock
+pub record SameReport (i : Image) (s t : Harts) : Type 0 where
+  pub seen : (d : ℕ) → IsDomain i d → view_on i d s ≡ view_on i d t
+  pub used : s.world.used ≡ t.world.used
+  pub clocks : (h : ℕ) → h < harts_in i.all.schedule → clock_of h s.world ≡ clock_of h t.world
+
+-- event by event each hart comes to have had its slots
+abbrev pub ThroughLaw : Type 0
+ThroughLaw = (i : Image) (n : ℕ) → Runnable i → AreThrough (machine_of i) n (event_by_event i n).world
+
+-- slot by slot the report is the same, and so are the switches: at which clock, and of which hart, in their order
+abbrev pub SlotBySlotLaw : Type 0
+SlotBySlotLaw = (i : Image) (n : ℕ) → Runnable i →
+    let slow = event_by_event i n in
+    let fast = slot_by_slot i n in
+    SameReport i slow.world fast.world × (slow.switches ≡ fast.switches)
+
+-- that order is by clock, and then by the hart's number
+abbrev pub SwitchOrderLaw : Type 0
+SwitchOrderLaw = (i : Image) (n : ℕ) → Runnable i → laws.AreSorted (slot_by_slot i n).switches
+
+-- ---- in any other order of events
+
+-- each slot is run whole when its switch comes, and its events are counted off: where no hart is in a slot the report is the
+-- same, and no event is owed
+abbrev pub CountedOffLaw : Type 0
+CountedOffLaw = (i : Image) (order : List ℕ) → Runnable i → AreHartsOf i order
+    → AreBetween (machine_of i) (harts i order) →
+    let s = all_counted (machine_of i) order (none_owed (harts i [])) in
+    SameReport i (harts i order) s.world × ((h : ℕ) → h < harts_in i.all.schedule → owed_of h s ≡ 0)
+
+-- ---- of each part: a hart's core and clock, its domains' states, frames and sets, and what switches took
+
+abbrev pub PartsLaw : Type 0
+PartsLaw = (i : Image) → Runnable i → laws.SlotsLaw (machine_of i)
+
+abbrev pub AnyOrderPartsLaw : Type 0
+AnyOrderPartsLaw = (i : Image) → Runnable i → laws.AnyOrderLaw (machine_of i)
+
+abbrev pub DrawnPartsLaw : Type 0
+DrawnPartsLaw = (i : Image) → Runnable i → laws.DrawnLaw (machine_of i)
+
+-- two events of different harts may change places, where one of them is no switch
+abbrev pub HartsCommuteLaw : Type 0
+HartsCommuteLaw = (i : Image) → Runnable i → laws.CommuteLaw (machine_of i)
+
+abbrev pub HartsPassLaw : Type 0
+HartsPassLaw = (i : Image) → Runnable i → laws.PassLaw (machine_of i)

@@ -1,0 +1,3 @@
+-- An image's harts as a machine of harts.
+pub mod HartMachine
+pub mod Laws

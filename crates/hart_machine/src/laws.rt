@@ -1,0 +1,29 @@
+//! Laws over the definitions, each the contract of a function that does nothing: a caller
+//! that calls it may rely on the law.
+ghost use Rattle.hart_machine.specs.Laws.{ThroughLaw, SlotBySlotLaw, SwitchOrderLaw, CountedOffLaw, PartsLaw, AnyOrderPartsLaw, DrawnPartsLaw, HartsCommuteLaw, HartsPassLaw};
+
+/// By the least clock, slot by slot: the report is that of the run event by event, and the
+/// switches come by their clocks, and then by their harts' numbers.
+pub fn slots()
+    ensures through { ThroughLaw }
+    ensures same { SlotBySlotLaw }
+    ensures order { SwitchOrderLaw }
+{}
+
+/// In any other order of events, too, slots may be run whole and their events counted off.
+pub fn any_order()
+    ensures counted { CountedOffLaw }
+{}
+
+/// What all of this says of each part of the machine, at every moment.
+pub fn parts()
+    ensures slots { PartsLaw }
+    ensures any_order { AnyOrderPartsLaw }
+    ensures drawn { DrawnPartsLaw }
+{}
+
+/// Two events of different harts may change places, where one of them is no switch.
+pub fn commuting()
+    ensures commute { HartsCommuteLaw }
+    ensures pass { HartsPassLaw }
+{}
