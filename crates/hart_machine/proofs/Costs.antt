@@ -4,7 +4,7 @@ use Rattle.mem_system.specs.Hierarchy.{Hierarchy}
 use Rattle.mem_system.specs.Cost.{Touch, Flush, Caches, Touched, and_then, touched, touched_all}
 use Rattle.mem_system.specs.Operations.{leave, prefetch}
 use Rattle.mem_system.specs.Sharing as sharing
-use Rattle.mem_system.specs.Sharing.{IsSharing, MayTouchAll}
+use Rattle.mem_system.specs.Sharing.{IsSharing, MayTouchAll, is_own_set}
 use Rattle.mem_system.proofs.OwnTouches.{beside_law, prefetch_may}
 use Rattle.hardware_check.specs.Hardware.{Hardware}
 use Rattle.sched_table.specs.Schedule.{outgoing, last_end, harts_in}
@@ -13,7 +13,7 @@ use Rattle.image_check.specs.Image.{Image, own_of}
 use Rattle.image_check.specs.Laws.{Runnable}
 use Rattle.world_view.specs.Kernel.{layout}
 use Rattle.world_view.specs.Cost.{hierarchy, region}
-use Rattle.world_view.specs.Machine.{Hart, World, caches_of, part_of, guarded, leave_by, switch_work_by, prefetch_by, flush_by, switch_work, cycles_on}
+use Rattle.world_view.specs.Machine.{Hart, World, caches_of, part_of, guarded, with_hart, switch_on, leave_by, switch_work_by, prefetch_by, flush_by, switch_work, cycles_on}
 use Rattle.world_view.specs.Relations.{IsKernel, SameSets, Resident, InTime, left_colours}
 use Rattle.world_view.specs.Harts.{image_on, domain_in}
 use Rattle.world_view.proofs.opening.Separate.{Separated}
@@ -21,7 +21,8 @@ use Rattle.world_view.proofs.opening.OpeningFacts.{kernel_of}
 use Rattle.world_view.proofs.touches.KernelTouches.{leave_may}
 use Rattle.world_view.proofs.runs.SwitchLaws.{prepared, entered, left, others_left, own_left}
 use Rattle.world_view.proofs.harts.OnHart.{separated_on, hart_is}
-use Rattle.hart_machine.specs.HartMachine.{SameParts}
+use Rattle.world_view.proofs.harts.Events.{switched}
+use Rattle.hart_machine.specs.HartMachine.{SameParts, IsNobodysSet, SameNobodys}
 use Rattle.hart_machine.proofs.Equal.{near}
 use Rattle.hart_machine.proofs.Turns.{leaves_or}
 
@@ -62,6 +63,29 @@ module _ (h : Hierarchy) (own : ℕ → Bool) (shared : List ℕ) where
           there = one.caches.l2.resident;
           there_too = other.caches.l2.resident;
         };
+      }
+
+-- touches leave the sets of other colours than the domain's and the kernel's
+module _ (h : Hierarchy) (own : ℕ → Bool) (shared : List ℕ) where
+  pub record IsReady (c : Caches) : Type 0 where
+    pub dirty : sharing.OwnDirty h own c.core
+    pub there : sharing.Resident h shared c.l2
+
+  pub record Leaves (c later : Caches) : Type 0 where
+    pub ready : IsReady later
+    pub outside : sharing.SameOutside h own later.l2 c.l2
+
+  pub touches_leave : IsSharing h own shared → (ts : List Touch) (c : Caches) → MayTouchAll h own shared ts → IsReady c
+      → Leaves c (touched_all h false c ts).caches
+  touches_leave shares ts c may n =
+      let one = beside_law h own shared c.l2 ts c c shares may (record {
+        core = refl;
+        dirty = n.dirty;
+        l2 = record { same = λ s mine. refl; resident = n.there; outside = λ s out kernels. refl };
+      }) in
+      record {
+        ready = record { dirty = one.caches.dirty; there = one.caches.l2.resident };
+        outside = one.caches.l2.outside;
       }
 
 one_touch : (h : Hierarchy) (c : Caches) (t : Touch) → (touched_all h false c (t ∷ [])).cost ≡ (touched h false c t).cost
@@ -105,6 +129,49 @@ module _ (i : Image) (r : Runnable i) (h : ℕ) (is : h < harts_in i.all.schedul
     pub time : InTime on h k w
     pub there : Resident p (caches_of h w)
 
+  abbrev away : ℕ → Caches → Touched
+  away k c = leave_by (guarded on) on (out k) c
+
+  abbrev loads : Caches → Touched
+  loads u = touched_all levels false u (prefetch (region p))
+
+  -- ---- what is nobody's stays
+
+  nobodys : (x : ℕ) → IsNobodysSet i x → (k : ℕ) → is_own_set levels (colours k) x ≡ false
+  nobodys x none zero = refl
+  nobodys x none (suc k) = none.none (domain_in i h k) (r_on.named k)
+
+  leave_leaves : (k : ℕ) (c : Caches) → IsReady levels (colours k) (region p) c
+      → Leaves levels (colours k) (region p) c (away k c).caches
+  unfolding leave_by guarded
+  leave_leaves zero c ready = record { ready = ready; outside = λ s out kernels. refl }
+  leave_leaves (suc k) c ready =
+      touches_leave levels (colours (suc k)) (region p) (shares (suc k)) (leave p.costs (layout p (its k))) c
+      (leave_may p (its k) (kernel k) (region p)) ready
+
+  flush_leaves : (k : ℕ) (c : Caches) → IsReady levels (colours k) (region p) c
+      → Leaves levels (colours k) (region p) c (touched levels false c Flush).caches
+  unfolding touched_all and_then
+  flush_leaves k c ready = touches_leave levels (colours k) (region p) (shares k) (Flush ∷ []) c (tt, tt) ready
+
+  pub switched_leaves : (k : ℕ) (u : World) → IsBefore k u → SameNobodys i (switched i r h is k u) u
+  unfolding switch_on with_hart switch_work_by prefetch_by flush_by guarded and_then prepared
+  switched_leaves k u a =
+      let gone = leave_leaves k (caches_of h u) (record { dirty = a.time.dirty; there = a.there }) in
+      let c = (away k (caches_of h u)).caches in
+      let loaded =
+      touches_leave levels (colours k) (region p) (shares k) (prefetch (region p)) c (prefetch_may levels (colours k) (region p)) gone.ready in
+      let flushed = flush_leaves k (loads c).caches loaded.ready in
+      let into = (entered p (its k) (kernel k) c (prepared p c) (λ _ _. refl)).caches.l2 in
+      record {
+        frames = λ f none. refl;
+        sets = λ x none.
+            into.outside x (none.none (domain_in i h k) (r_on.named k)) none.not_kernel
+            ∙ flushed.outside x (nobodys x none k) none.not_kernel
+            ∙ loaded.outside x (nobodys x none k) none.not_kernel
+            ∙ gone.outside x (nobodys x none k) none.not_kernel;
+      }
+
   module _ (w v : World) (same : SameParts i h w v) where
     same_sets : (k : ℕ) → sharing.SameSets levels (colours k) w.l2 v.l2
     same_sets zero s mine = absurd (true≢false (sym mine))
@@ -122,9 +189,6 @@ module _ (i : Image) (r : Runnable i) (h : ℕ) (is : h < harts_in i.all.schedul
 
     -- ---- who leaves
 
-    abbrev away : ℕ → Caches → Touched
-    away k c = leave_by (guarded on) on (out k) c
-
     leaves_near : (k : ℕ) → IsBefore k w → IsBefore k v
         → NearTouched levels (colours k) (region p) (away k (caches_of h w)) (away k (caches_of h v))
     unfolding leave_by guarded
@@ -141,9 +205,6 @@ module _ (i : Image) (r : Runnable i) (h : ℕ) (is : h < harts_in i.all.schedul
       x = (away k (caches_of h v)).caches
 
       -- ---- the prefetch, and the flush
-
-      abbrev loads : Caches → Touched
-      loads u = touched_all levels false u (prefetch (region p))
 
       loads_near : NearTouched levels (colours k) (region p) (loads c) (loads x)
       loads_near =

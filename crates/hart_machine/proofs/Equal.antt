@@ -9,7 +9,7 @@ use Rattle.world_view.specs.Machine.{Hart, Local, World, part_of}
 use Rattle.world_view.specs.Relations.{IsDomain, Within, Apiece}
 use Rattle.world_view.specs.Harts.{Harts, hart_of_domain}
 use Rattle.world_view.proofs.harts.Meets.{apiece_trans}
-use Rattle.hart_machine.specs.HartMachine.{SameParts, SameHart, SameShared}
+use Rattle.hart_machine.specs.HartMachine.{SameParts, SameHart, SameNobodys, SameShared}
 
 -- ---- for a domain
 
@@ -78,9 +78,22 @@ module _ (i : Image) (h : ℕ) where
         record { parts = parts_on s.world t.world u.world e.parts f.parts; progress = e.progress ∙ f.progress };
   }
 
-pub same_shared : IsEquality Harts SameShared
-same_shared = record {
-  itself = λ s. record { used = refl };
-  back = λ s t e. record { used = sym e.used };
-  on = λ s t u e f. record { used = e.used ∙ f.used };
+pub nobodys_back : (i : Image) (w v : World) → SameNobodys i w v → SameNobodys i v w
+nobodys_back i w v e =
+    record { frames = λ f none. sym (e.frames f none); sets = λ x none. sym (e.sets x none) }
+
+pub nobodys_on : (i : Image) (w v u : World) → SameNobodys i w v → SameNobodys i v u → SameNobodys i w u
+nobodys_on i w v u e f = record {
+  frames = λ x none. e.frames x none ∙ f.frames x none;
+  sets = λ x none. e.sets x none ∙ f.sets x none;
+}
+
+pub same_shared : (i : Image) → IsEquality Harts (SameShared i)
+same_shared i = record {
+  itself = λ s. record { used = refl; nobodys = record { frames = λ f none. refl; sets = λ x none. refl } };
+  back = λ s t e. record {
+    used = sym e.used;
+    nobodys = nobodys_back i s.world t.world e.nobodys;
+  };
+  on = λ s t u e f. record { used = e.used ∙ f.used; nobodys = nobodys_on i s.world t.world u.world e.nobodys f.nobodys };
 }

@@ -1,5 +1,5 @@
 -- An image's harts are one of the machines that the laws of orders are about.
-use Rattle.std.proofs.Common.{◌≡◌, ◌≢◌, ◌⊎◌, inl, inr, ℕ, ◌<◌, Bool, true, false, ltb, List, [], ◌∷◌, ◌++◌, ap, ap₂, sym, ◌∙◌, refl, subst}
+use Rattle.std.proofs.Common.{◌≡◌, ◌≢◌, ◌⊎◌, inl, inr, ℕ, ◌<◌, Bool, true, false, ltb, List, [], ◌∷◌, ◌++◌, ap, ap₂, sym, ◌∙◌, subst}
 use Rattle.event_orders.specs.Machine.{IsMachine}
 use Rattle.image_check.specs.Image.{Image}
 use Rattle.image_check.specs.Laws.{Runnable}
@@ -10,11 +10,11 @@ use Rattle.world_view.specs.Harts.{Harts, Progress, image_on, end_on, progress_o
 use Rattle.world_view.proofs.harts.Events.{switched}
 use Rattle.world_view.proofs.harts.Runs.{next_so}
 use Rattle.world_view.proofs.harts.Clocks.{begun_world, hart_stays}
-use Rattle.hart_machine.specs.HartMachine.{IsReached, SameParts, SameHart, SameShared, machine_of}
-use Rattle.hart_machine.proofs.Equal.{same_hart, same_shared}
-use Rattle.hart_machine.proofs.Work.{IsIn, runs_same}
+use Rattle.hart_machine.specs.HartMachine.{IsReached, SameParts, SameHart, SameNobodys, SameShared, machine_of}
+use Rattle.hart_machine.proofs.Equal.{same_hart, nobodys_back, nobodys_on, same_shared}
+use Rattle.hart_machine.proofs.Work.{IsIn, runs_leaves, runs_same}
 use Rattle.hart_machine.proofs.Turns.{switched_same}
-use Rattle.hart_machine.proofs.Costs.{cycles_alike}
+use Rattle.hart_machine.proofs.Costs.{switched_leaves, cycles_alike}
 use Rattle.hart_machine.proofs.Events as events
 use Rattle.hart_machine.proofs.Events.{stands, ran, is_early, place, cycles, works_world, works_progress, works_used, turns_world, turns_progress, turns_used}
 use Rattle.hart_machine.proofs.Reached as reached
@@ -29,6 +29,24 @@ noted_same i h e f c d w v same = record {
 }
 
 module _ (i : Image) (r : Runnable i) where
+  -- ---- what is nobody's
+
+  work_shared : (h : ℕ) (s : Harts) → h < harts_in i.all.schedule → IsReached i s → (progress_of h s).inside ≡ true
+      → SameShared i (next i h s) s
+  work_shared h s there a now = record {
+    used = works_used i h s now;
+    nobodys = subst (λ (w : World). SameNobodys i w s.world) (sym (works_world i h s now))
+        (runs_leaves i r h there (slots_of h s) s.world (is_in i r s a h there now));
+  }
+
+  turn_leaves : (h : ℕ) (s : Harts) → h < harts_in i.all.schedule → IsReached i s → (progress_of h s).inside ≡ false
+      → Resident i.all.hardware (caches_of 0 s.world) → SameNobodys i (next i h s).world s.world
+  turn_leaves h s there a out here =
+      let k = slots_of h s in
+      let left = switched_leaves i r h there k s.world (record { time = is_in_time i r s a h there out; there = here }) in
+      subst (λ (w : World). SameNobodys i w s.world) (sym (turns_world i h s out))
+      (record { frames = left.frames; sets = left.sets })
+
   -- ---- another hart
 
   others : (g h : ℕ) (s : Harts) → h < harts_in i.all.schedule → g ≢ h → IsReached i s → SameHart i g (next i h s) s
@@ -120,24 +138,28 @@ module _ (i : Image) (r : Runnable i) where
           (record { time = time_too; there = here_too })
           ∙ ap (λ (n : ℕ). cycles i h t n t.world) (sym slots)
 
-      shared_if : SameShared s t → IsFirstOr s → IsFirstOr t → SameShared (next i h s) (next i h t)
+      shared_if : SameShared i s t → IsFirstOr s → IsFirstOr t → SameShared i (next i h s) (next i h t)
       shared_if shared (inl first) x =
           let none = sym shared.used ∙ ap (λ (y : Harts). y.world.used) first ∙ none_used i in
           let equal : s ≡ t = first ∙ sym (first_of i r t b none) in
-          subst (λ (y : Harts). SameShared (next i h s) (next i h y)) equal (record { used = refl })
+          subst (λ (y : Harts). SameShared i (next i h s) (next i h y)) equal ((same_shared i).itself (next i h s))
       shared_if shared (inr here) (inl first) =
           let none = shared.used ∙ ap (λ (y : Harts). y.world.used) first ∙ none_used i in
           let equal : s ≡ t = first_of i r s a none ∙ sym first in
-          subst (λ (y : Harts). SameShared (next i h s) (next i h y)) equal (record { used = refl })
+          subst (λ (y : Harts). SameShared i (next i h s) (next i h y)) equal ((same_shared i).itself (next i h s))
       shared_if shared (inr here) (inr here_too) = record {
         used =
             turns_used i h s out
             ∙ ap₂ (λ (us : List (ℕ × ℕ)) (c : ℕ). us ++ (place i h s k, c) ∷ []) shared.used (took_alike here here_too)
             ∙ ap (λ (n : ℕ). t.world.used ++ (place i h t n, cycles i h t (slots_of h t) t.world) ∷ []) (sym slots)
             ∙ sym (turns_used i h t out_too);
+        nobodys =
+            nobodys_on i (next i h s).world s.world (next i h t).world (turn_leaves h s there a out here)
+            (nobodys_on i s.world t.world (next i h t).world shared.nobodys
+            (nobodys_back i (next i h t).world t.world (turn_leaves h t there b out_too here_too)));
       }
 
-      pub turn_shared : SameShared s t → SameShared (next i h s) (next i h t)
+      pub turn_shared : SameShared i s t → SameShared i (next i h s) (next i h t)
       turn_shared shared = shared_if shared (run i r s a).shared (run i r t b).shared
 
   -- ---- all of it
@@ -145,7 +167,7 @@ module _ (i : Image) (r : Runnable i) where
   pub is_machine : IsMachine (machine_of i)
   is_machine = record {
     same = same_hart i;
-    shared = same_shared;
+    shared = same_shared i;
     as_far = λ h s t e. record {
       clock = ap (λ (x : Hart). x.clock) e.parts.hart;
       slots = ap (λ (x : Progress). x.slots) e.progress;
@@ -154,7 +176,7 @@ module _ (i : Image) (r : Runnable i) where
     sound = λ h s there a. next_reached i h s there a;
     others = λ g h s there ne a. others g h s there ne a;
     work = λ h s t there a b now same. work h s t there a b same now;
-    work_shared = λ h s there a now. record { used = works_used i h s now };
+    work_shared = work_shared;
     turn = λ h s t there a b out same shared. turn h s t there a b same out;
     turn_shared = λ h s t there a b out same shared. turn_shared h s t there a b same out shared;
     rises = λ h s there a. reached.rises i r s a h there;

@@ -5,13 +5,15 @@ use Rattle.sched_table.specs.Schedule.{harts_in}
 use Rattle.hardware_check.specs.Hardware.{Hardware}
 use Rattle.image_check.specs.Image.{Image, own_of}
 use Rattle.image_check.specs.Laws.{Runnable}
-use Rattle.world_view.specs.Machine.{Hart, World, hart_of, caches_of, dom_of, part_of, setting, step}
+use Rattle.world_view.specs.Machine.{Hart, World, hart_of, caches_of, dom_of, part_of, with_part, with_hart, setting, step}
 use Rattle.world_view.specs.Relations.{IsDomain, HasFacts, Resident, Within, Apiece}
-use Rattle.world_view.specs.Harts.{domain_in, end_on, hart_of_domain, runs}
+use Rattle.world_view.specs.Harts.{image_on, domain_in, end_on, hart_of_domain, runs}
+use Rattle.world_view.proofs.opening.OpeningFacts.{kernel_of}
+use Rattle.world_view.proofs.steps.StepLaws.{step_near}
 use Rattle.world_view.proofs.harts.OnHart.{separated_on, hart_is}
 use Rattle.world_view.proofs.harts.Events.{IsInside, ran-hart, step_leaves}
 use Rattle.world_view.proofs.harts.Meets.{within_trans, apiece_trans, moved}
-use Rattle.hart_machine.specs.HartMachine.{SameParts}
+use Rattle.hart_machine.specs.HartMachine.{SameParts, SameNobodys}
 use Rattle.hart_machine.proofs.Equal.{within_itself, within_back, apiece_back, apiece_of, same_hart_by, near}
 
 module _ (i : Image) (r : Runnable i) (h : ℕ) (is : h < harts_in i.all.schedule) (k : ℕ) where
@@ -30,6 +32,28 @@ module _ (i : Image) (r : Runnable i) (h : ℕ) (is : h < harts_in i.all.schedul
     pub inside : IsInside i h k w
     pub facts : HasFacts p (own_of i its) (dom_of w its) w.storage
     pub there : Resident p (caches_of h w)
+
+  -- what is nobody's stays
+  pub runs_leaves : (u : World) → IsIn u → SameNobodys i (runs i h k u) u
+  unfolding runs with_part with_hart
+  runs_leaves u c =
+      let s = part_of h its u in
+      let stepped = step_near p (own_of i its) (end_on i h k) s s s (record {
+        kernel = kernel_of (image_on i h) (separated_on i r h is) its named;
+        dom = refl;
+        facts = c.facts;
+        storage = record { same = λ f own. refl; outside = λ f out. refl };
+        caches = record {
+          core = refl;
+          dirty = c.inside.dirty;
+          l2 = record { same = λ x own. refl; resident = c.there; outside = λ x out kernels. refl };
+        };
+        clock = refl;
+      }) in
+      record {
+        frames = λ f none. stepped.storage.outside f (none its named);
+        sets = λ x none. stepped.caches.l2.outside x (none.none its named) none.not_kernel;
+      }
 
   module _ (w v : World) (a : IsIn w) (b : IsIn v) (same : SameParts i h w v) where
     abbrev w' : World

@@ -1,8 +1,14 @@
 -- An image's harts as a machine: what each of them has, and what their switches share.
-use Rattle.std.specs.Prelude.{◌≡◌, ℕ, List}
+use Rattle.std.specs.Prelude.{◌≡◌, ◌≢◌, ℕ, false, List}
 use Rattle.event_orders.specs.Machine.{Machine}
+use Rattle.phys_mem.specs.Mem.{frame_at}
+use Rattle.set_cache.specs.Cache.{set_at}
+use Rattle.l2_colour.specs.Colours.{colour_of_set}
+use Rattle.mem_system.specs.Sharing.{is_own_set}
 use Rattle.image_check.specs.Image.{Image, own_of}
 use Rattle.sched_table.specs.Schedule.{harts_in}
+use Rattle.world_view.specs.Frames.{own_frame}
+use Rattle.world_view.specs.Cost.{hierarchy, own_colour}
 use Rattle.world_view.specs.Machine.{World, hart_of, clock_of, part_of}
 use Rattle.world_view.specs.Relations.{IsDomain, Apiece}
 use Rattle.world_view.specs.Harts.{Harts, start_on, end_on, hart_of_domain, progress_of, slots_of, next, harts}
@@ -24,9 +30,24 @@ pub record SameHart (i : Image) (h : ℕ) (s t : Harts) : Type 0 where
   pub parts : SameParts i h s.world t.world
   pub progress : progress_of h s ≡ progress_of h t
 
--- equal in what switches alone write: what each took, in their order
-pub record SameShared (s t : Harts) : Type 0 where
+-- a frame of no domain, and a set of no domain's colours, nor of the kernel's
+abbrev pub IsNobodysFrame : Image → ℕ → Type 0
+IsNobodysFrame i f = (d : ℕ) → IsDomain i d → own_frame i.all.hardware (own_of i d) f ≡ false
+
+pub record IsNobodysSet (i : Image) (x : ℕ) : Type 0 where
+  pub not_kernel : colour_of_set (hierarchy i.all.hardware).line_size x ≢ 0
+  pub none : (d : ℕ) → IsDomain i d → is_own_set (hierarchy i.all.hardware) (own_colour (own_of i d)) x ≡ false
+
+-- equal in them
+pub record SameNobodys (i : Image) (w v : World) : Type 0 where
+  pub frames : (f : ℕ) → IsNobodysFrame i f → frame_at w.storage.mem f ≡ frame_at v.storage.mem f
+  pub sets : (x : ℕ) → IsNobodysSet i x
+      → set_at (hierarchy i.all.hardware).l2.ways w.l2 x ≡ set_at (hierarchy i.all.hardware).l2.ways v.l2 x
+
+-- equal in what switches alone write, which is what each took, in their order; and in what is nobody's
+pub record SameShared (i : Image) (s t : Harts) : Type 0 where
   pub used : s.world.used ≡ t.world.used
+  pub nobodys : SameNobodys i s.world t.world
 
 abbrev pub machine_of : Image → Machine
 machine_of i = record {
@@ -40,5 +61,5 @@ machine_of i = record {
   end = end_on i;
   IsSound = IsReached i;
   Same = SameHart i;
-  SameShared = SameShared;
+  SameShared = SameShared i;
 }

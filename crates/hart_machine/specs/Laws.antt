@@ -55,7 +55,8 @@ CountedOffLaw = (i : Image) (order : List ℕ) → Runnable i → AreHartsOf i o
     let s = all_counted (machine_of i) order (none_owed (harts i [])) in
     SameReport i (harts i order) s.world × ((h : ℕ) → h < harts_in i.all.schedule → owed_of h s ≡ 0)
 
--- ---- of each part: a hart's core and clock, its domains' states, frames and sets, and what switches took
+-- ---- of each part: a hart's core and clock, its domains' states, frames and sets, what switches took, and what is nobody's;
+-- of the second level's sets of the kernel's colour nothing is said
 
 abbrev pub PartsLaw : Type 0
 PartsLaw = (i : Image) → Runnable i → laws.SlotsLaw (machine_of i)
