@@ -4,3 +4,4 @@ mod Slots
 mod AllOn
 mod Entered
 mod Runs
+mod GuardsOff

@@ -3,3 +3,4 @@ pub mod Propositions
 pub mod Models
 pub mod Worlds
 pub mod Ablated
+pub mod GuardLaws

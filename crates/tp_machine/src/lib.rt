@@ -5,6 +5,7 @@
 #![tactic(auto)]
 
 mod ablated;
+pub mod guard_laws;
 mod guarded;
 mod machine;
 mod off;
