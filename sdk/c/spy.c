@@ -6,15 +6,9 @@
 #define LINES 16
 #define LINE_WORDS 16
 #define LOOKS 8
-#define REST 2000 /* times round a loop of six cycles: longer than a slot */
+#define REST 12000 /* cycles: longer than a slot */
 
 static volatile uint32_t page[LINES * LINE_WORDS] __attribute__((aligned(4096)));
-
-static void rest(void)
-{
-    for (int left = REST; left; left--)
-        __asm__ volatile("");
-}
 
 int main(void)
 {
@@ -24,7 +18,7 @@ int main(void)
             (void)page[line * LINE_WORDS];
             tp_cycle();
         }
-        rest();
+        tp_rest(REST);
     }
     return 0;
 }

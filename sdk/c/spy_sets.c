@@ -8,7 +8,7 @@
 #define WAYS 2
 #define LINE_WORDS 16
 #define LOOKS 8
-#define REST 2000 /* times round a loop of six cycles: longer than a slot */
+#define REST 12000 /* cycles: longer than a slot */
 
 static volatile uint32_t lines[WAYS][SETS][LINE_WORDS] __attribute__((aligned(4096)));
 
@@ -18,18 +18,12 @@ static void load(int set)
         (void)lines[way][set][0];
 }
 
-static void rest(void)
-{
-    for (int left = REST; left; left--)
-        __asm__ volatile("");
-}
-
 int main(void)
 {
     for (int look = 0; look < LOOKS; look++) {
         for (int set = 0; set < SETS; set++)
             load(set);
-        rest();
+        tp_rest(REST);
         for (int set = 0; set < SETS; set++) {
             tp_cycle();
             load(set);

@@ -1,9 +1,19 @@
 /* The kernel's calls, one function each, for programs in C. docs/IMAGE.md, 'Kernel
-   calls', tells what each does and by which error it is refused. */
+   calls', tells what each does and by which error it is refused.
+
+   Units and ranges, where nothing else is said: a `slot` is one of the domain's 64
+   capability slots, 0 to 63; those that `caps` of the description fill are the first, in
+   their order. An `address` is one of the domain's own, in bytes. Times are in cycles. */
 #ifndef TP_H
 #define TP_H
 
 #include <stdint.h>
+
+#define TP_SLOTS 64
+#define TP_PAGE_BYTES 4096u
+#define TP_TABLE_BYTES 0x400000u /* what one page table maps */
+#define TP_OUTPUT_BYTES 4096     /* what a domain can print */
+#define TP_READINGS 256          /* of the values that it reads from counters the report keeps the first */
 
 enum tp_error {
     TP_OK = 0,
@@ -62,89 +72,99 @@ static inline struct tp_reply tp_call(enum tp_call number, uint32_t a, uint32_t 
     return (struct tp_reply){(enum tp_error)a0, a1};
 }
 
-/* Ends the domain. (Where `calls` leave EXIT out nothing does, and what comes next is run.) */
+/* Ends the domain, with any code of 32 bits. (Where `calls` leave EXIT out nothing does, and what comes next is run.) */
 static inline void __attribute__((noreturn)) tp_exit(uint32_t code)
 {
     tp_call(TP_CALL_EXIT, code, 0, 0);
     __builtin_unreachable();
 }
 
-/* Prints a byte. */
+/* Prints a byte; TP_OUTPUT_FULL after TP_OUTPUT_BYTES of them. */
 static inline enum tp_error tp_put(char byte)
 {
     return tp_call(TP_CALL_PUT, (uint8_t)byte, 0, 0).error;
 }
 
-/* Slot `slot` names a frame that was free, zeroed. */
+/* Takes a frame of the domain that is free, and zeroes it; the slot, which is empty, names
+   it: as a page with all rights, mapped nowhere, or as a page table, installed nowhere. */
 static inline enum tp_error tp_alloc(uint32_t slot, enum tp_kind kind)
 {
     return tp_call(TP_CALL_ALLOC, slot, kind, 0).error;
 }
 
-/* Installs the page table for the 4 MiB at `address`. */
+/* Installs the slot's page table for the 4 MiB at `address`, a multiple of TP_TABLE_BYTES.
+   Those of the program's segments are there from the beginning. */
 static inline enum tp_error tp_table(uint32_t slot, uint32_t address)
 {
     return tp_call(TP_CALL_TABLE, slot, address, 0).error;
 }
 
+/* Maps the slot's page at `address`, a multiple of TP_PAGE_BYTES, for which a page table is
+   there, with rights that it has: a sum of `tp_rights`. */
 static inline enum tp_error tp_map(uint32_t slot, uint32_t address, uint32_t rights)
 {
     return tp_call(TP_CALL_MAP, slot, address, rights).error;
 }
 
+/* Unmaps the slot's page, where it is mapped through this slot. */
 static inline enum tp_error tp_unmap(uint32_t slot)
 {
     return tp_call(TP_CALL_UNMAP, slot, 0, 0).error;
 }
 
-/* Slot `to` names what slot `from` does, a page with these rights. */
+/* Slot `to`, which is empty, names what slot `from` does: a line, or a page, with rights
+   that it has, mapped nowhere. */
 static inline enum tp_error tp_copy(uint32_t from, uint32_t to, uint32_t rights)
 {
     return tp_call(TP_CALL_COPY, from, to, rights).error;
 }
 
+/* Empties the slot. What was mapped or installed through it no longer is, and a frame that
+   no slot names any more is free. */
 static inline enum tp_error tp_delete(uint32_t slot)
 {
     return tp_call(TP_CALL_DELETE, slot, 0, 0).error;
 }
 
-/* Deletes every other slot that names the same; the value is their number. */
+/* Deletes every other slot that names the same; the value is their number, 0 to 63. */
 static inline struct tp_reply tp_revoke(uint32_t slot)
 {
     return tp_call(TP_CALL_REVOKE, slot, 0, 0);
 }
 
-/* The value is 1 where an interrupt had come, which is then taken. */
+/* The value is 1 where an interrupt of the slot's line had come, which is then taken, else 0. */
 static inline struct tp_reply tp_poll(uint32_t slot)
 {
     return tp_call(TP_CALL_POLL, slot, 0, 0);
 }
 
-/* Waits for an interrupt, where none has come yet; the value is 1. */
+/* Waits for an interrupt of the slot's line, where none has come yet; the value is 1. The
+   domain's other threads run meanwhile. */
 static inline struct tp_reply tp_wait(uint32_t slot)
 {
     return tp_call(TP_CALL_WAIT, slot, 0, 0);
 }
 
-/* Does what an interrupt of the line would. */
+/* Does what an interrupt of the slot's line would. */
 static inline enum tp_error tp_signal(uint32_t slot)
 {
     return tp_call(TP_CALL_SIGNAL, slot, 0, 0).error;
 }
 
-/* Starts a thread at an address, with nothing but x10; the value is its number.
-   A function in C wants a stack: tp_start_thread. */
+/* Starts a thread at an address, a multiple of 4, with nothing but x10; the value is its
+   number, 0 to 7. A function in C wants a stack: tp_start_thread. */
 static inline struct tp_reply tp_spawn(uint32_t address, uint32_t x10)
 {
     return tp_call(TP_CALL_SPAWN, address, x10, 0);
 }
 
-/* The next thread that is ready runs. */
+/* The domain's next thread that is ready runs. */
 static inline void tp_yield(void)
 {
     tp_call(TP_CALL_YIELD, 0, 0, 0);
 }
 
+/* Ends the thread; with the last one the domain has exited with code 0. */
 static inline void __attribute__((noreturn)) tp_end_thread(void)
 {
     tp_call(TP_CALL_END_THREAD, 0, 0, 0);
@@ -155,7 +175,8 @@ static inline void __attribute__((noreturn)) tp_end_thread(void)
 
 void tp_thread_entry(void); /* in crt0.S */
 
-/* Starts a thread that runs a function on a stack of its own, and ends as it returns. */
+/* Starts a thread that runs a function on a stack of its own, of 32 bytes at least, and ends
+   as it returns; the value is its number. */
 static inline struct tp_reply tp_start_thread(void (*function)(uint32_t), uint32_t argument,
                                               void *stack, uint32_t stack_bytes)
 {
@@ -166,8 +187,10 @@ static inline struct tp_reply tp_start_thread(void (*function)(uint32_t), uint32
     return tp_spawn((uint32_t)tp_thread_entry, top);
 }
 
-/* Counters, whose assembler name is an extension's beside rv32i. Each value read is
-   one of the domain's readings in the report. */
+/* Counters: of the clock, in cycles, which goes on while others run, and of the instructions
+   that the domain has retired; each the low or the high 32 bits. Each value read is one of
+   the domain's readings in the report, which counts all and keeps the first TP_READINGS.
+   (Their name in assembler is an extension's beside rv32i.) */
 #define TP_COUNTER(name, csr)                                                      \
     static inline uint32_t name(void)                                              \
     {                                                                              \
@@ -184,6 +207,23 @@ TP_COUNTER(tp_cycle_high, "cycleh")
 TP_COUNTER(tp_instret, "instret")
 TP_COUNTER(tp_instret_high, "instreth")
 #undef TP_COUNTER
+
+/* How many cycles a turn of tp_rest takes: two instructions that are in the cache, each
+   `base + l1 + tlb` of the image's costs. On a machine with other costs than those of
+   machine.toml, define it before this file is included. */
+#ifndef TP_REST_TURN
+#define TP_REST_TURN 6
+#endif
+
+/* Rests for about so many cycles, in turns of a loop: it reads no clock, since what a spin
+   reads would fill the readings that are kept. They are cycles in which the domain runs:
+   where its slot ends meanwhile, what is left is rested in its next one. So a spy that
+   looks again in each of its slots rests for a slot's length at least. */
+static inline void tp_rest(uint32_t cycles)
+{
+    for (uint32_t turns = cycles / TP_REST_TURN; turns; turns--)
+        __asm__ volatile("");
+}
 
 /* Prints a text; ends at the first error. */
 static inline enum tp_error tp_print(const char *text)

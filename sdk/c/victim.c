@@ -9,7 +9,7 @@
 #define LINE_WORDS 16
 #define DIGITS 8
 #define NUMBERS 12
-#define REST 1600 /* times round a loop of six cycles: with the look-ups, a slot and more */
+#define REST 9600 /* cycles: with the look-ups, a slot and more */
 
 volatile uint32_t key = 0;
 static volatile uint32_t table[LINES * LINE_WORDS] __attribute__((aligned(4096)));
@@ -26,17 +26,11 @@ static uint32_t sign(uint32_t number)
     return tag;
 }
 
-static void rest(void)
-{
-    for (int left = REST; left; left--)
-        __asm__ volatile("");
-}
-
 int main(void)
 {
     for (uint32_t number = 0; number < NUMBERS; number++) {
         tp_put((char)sign(number * 0x11111111u));
-        rest();
+        tp_rest(REST);
     }
     return 0;
 }
