@@ -14,10 +14,10 @@ from tp_sdk.program import REPOSITORY, Program
 
 # What stands for the top of the repository in a page.
 _PATH = re.compile(r"\bPATH/")
-_FILE = re.compile(r"`([\w-]+\.(?:c|h|rs|toml))`")
+_FILE = re.compile(r"`((?:\w+/)?[\w-]+\.(?:c|h|rs|toml))`")
 _LANGUAGES_OF_FILES = ("c", "toml", "rust")
-# What a page tells and no test does: to install packages, to prove the program.
-_NOT_RUN = ("sudo ", "./tp --prove")
+# What a page tells and no test does: to install what is wanted, to prove the program.
+_NOT_RUN = ("sudo ", "rustup ", "./tp --prove")
 # What the program says of itself where it isn't proved yet.
 _UNPROVED = "tp: this program is not proved yet"
 
@@ -89,7 +89,7 @@ class Reader:
         """A copy with the programs of sdk/c built."""
         reader = cls(folder / "top", folder / "own")
         reader.own.mkdir()
-        shutil.copytree(SDK, reader.top / "sdk", ignore=shutil.ignore_patterns("c", "tests"))
+        shutil.copytree(SDK, reader.top / "sdk", ignore=shutil.ignore_patterns("c", "tests", "out"))
         (reader.top / "sdk" / "c").symlink_to(built)
         (reader.top / "examples").symlink_to(REPOSITORY / "examples")
         (reader.top / "tp").symlink_to(program.path)
@@ -100,7 +100,9 @@ class Reader:
         folder, but those with PATH for a folder of one's own, where the files are."""
         for it in read_page(page):
             if isinstance(it, File):
-                (self.own / it.name).write_text(self._with_path(it.text))
+                file = self.own / it.name
+                file.parent.mkdir(exist_ok=True)
+                file.write_text(self._with_path(it.text))
             elif it.is_run:
                 place = self.own if _PATH.search(it.text) else folder
                 command = ["bash", "-c", self._with_path(it.text)]
