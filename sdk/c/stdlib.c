@@ -5,6 +5,16 @@
 
 #include "tp.h"
 
+/* A program may have functions of these names that are its own. */
+#pragma weak malloc
+#pragma weak calloc
+#pragma weak realloc
+#pragma weak free
+#pragma weak rand
+#pragma weak srand
+#pragma weak exit
+#pragma weak abort
+
 #define HEAP_START 0x100000u /* beyond what link.ld places */
 #define HEAP_END TP_TABLE_BYTES
 

@@ -187,6 +187,31 @@ def test_an_assertion_that_fails_stops_the_domain(program: Program, compiler: st
     assert run(silent, 10)[0][1] == "silent (domain 0): exited with code 9"
 
 
+def test_a_program_may_have_functions_of_these_names(program: Program, compiler: str, tmp_path: Path) -> None:
+    (tmp_path / "own.c").write_text(
+        """#include "tp.h"
+unsigned rand(void) { return 4; }
+void *malloc(unsigned bytes) { return (void *)(bytes + 1); }
+void *calloc(unsigned count, unsigned bytes) { return malloc(count * bytes); }
+void *realloc(void *block, unsigned bytes) { return bytes ? block : 0; }
+void free(void *block) { (void)block; }
+void srand(unsigned seed) { (void)seed; }
+void exit(int code) { tp_exit(code + 1u); }
+void abort(void) { exit(6); }
+int main(void)
+{
+    srand(1);
+    free(realloc(malloc(1), 1));
+    if (rand() == 4 && calloc(1, 1) == (void *)2)
+        abort();
+    return 0;
+}
+"""
+    )
+    lines, said = run(tmp_path / "own.c", 10)
+    assert lines[1] == "own (domain 0): exited with code 7" and "multiple definition" not in said
+
+
 def test_products_of_the_compilers_library_link(program: Program, compiler: str, tmp_path: Path) -> None:
     body = """volatile uint64_t great = 1000000007ull;
     volatile int64_t less = -12345678901234ll;
