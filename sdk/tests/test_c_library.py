@@ -2,11 +2,13 @@
 
 from __future__ import annotations
 
+import re
 from pathlib import Path
 
 import pytest
 from conftest import SDK, run_tool
 
+from tp_sdk.calls import CALLS, ERRORS
 from tp_sdk.program import Program
 from tp_sdk.report import parse_report
 
@@ -244,3 +246,16 @@ def test_a_rest_takes_about_its_cycles_and_reads_nothing(
     run(made, 20, "--length", "10000", "--report", tmp_path / "rests.report")
     section = parse_report((tmp_path / "rests.report").read_text(), "rests").section("rests")
     assert section.readings[-1] - section.readings[-2] > 24000 + 2 * 6150
+
+
+def test_calls_and_errors_are_those_of_the_kernel() -> None:
+    text = (SDK / "c" / "tp.h").read_text()
+    errors = re.findall(
+        r"^    TP_(\w+) = (\d+),", text.partition("enum tp_error {")[2].partition("}")[0], re.M
+    )
+    named = [("".join(word.capitalize() for word in name.split("_")), int(code)) for name, code in errors]
+    assert named == [("Ok", 0), *((it.name, it.code) for it in ERRORS)]
+    calls = re.findall(r"^    TP_CALL_(\w+) = (\d+),$", text, re.M)
+    assert [(name.replace("_", ""), int(number)) for name, number in calls] == [
+        (it.name, it.number) for it in CALLS
+    ]

@@ -3,6 +3,7 @@
 from __future__ import annotations
 
 import os
+import re
 import shutil
 import subprocess
 from pathlib import Path
@@ -11,6 +12,7 @@ import pytest
 from conftest import SDK, run_tool
 from pages import Reader
 
+from tp_sdk.calls import CALLS, ERRORS
 from tp_sdk.program import Program
 from tp_sdk.report import parse_report
 
@@ -71,3 +73,19 @@ def test_the_spy_finds_its_lines_again_until_its_slot_is_over(reader: Reader, tm
 
 def test_the_page_does_what_it_says(reader: Reader) -> None:
     reader.follow(SDK / "rust" / "README.md", reader.own)
+
+
+def test_calls_and_errors_are_those_of_the_kernel() -> None:
+    text = (SDK / "rust" / "src" / "lib.rs").read_text()
+    errors = re.findall(r"^    (\w+) = (\d+),$", text.partition("pub enum Error")[2].partition("}")[0], re.M)
+    assert [(name, int(code)) for name, code in errors] == [(it.name, it.code) for it in ERRORS]
+    listed = re.findall(r"Self::(\w+),", text.partition("const ALL")[2].partition("];")[0])
+    assert listed == [it.name for it in ERRORS]
+    functions = re.findall(r"pub (?:unsafe )?fn (\w+)\([^{]*\{(.*?)^\}", text, re.M | re.S)
+    made = {
+        name: int(number) for name, body in functions for number in re.findall(r"\bcall\(\s*(\d+),", body)
+    }
+    others = {"yield_now": "YIELD", "start_thread": "SPAWN"}
+    assert {others.get(name, name.upper()): number for name, number in made.items()} == {
+        it.name: it.number for it in CALLS if it.name != "ENDTHREAD"  # (a thread's function returns)
+    }
