@@ -172,9 +172,9 @@ fn read_for<S: Source>(alloc: Global, command: Command, src: &mut S) -> Result<V
     read_within(alloc, src, MOST_BYTES)
 }
 
-// Answers all bytes of a source, or one more than an image may have, or none
-// where the command works on no image.
-fn answer_bytes<K: Sink>(alloc: Global, command: Command, bytes: &[u8], out: &mut K) -> Status
+/// Answers all bytes of a source, or one more than an image may have, or none
+/// where the command works on no image.
+pub fn answer_bytes<K: Sink>(alloc: Global, command: Command, bytes: &[u8], out: &mut K) -> Status
     requires range { IsInRange command }
     requires none { ¬ Reads command → bytes.now ≡ [] }
     ensures delivers { Delivers (spec.answer_of_bytes command bytes.now)

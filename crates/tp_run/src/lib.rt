@@ -7,5 +7,5 @@ mod generate;
 mod reported;
 mod run;
 
-pub use call::tp_main;
+pub use call::{answer_bytes, tp_main};
 pub use tp_answer::Status;
