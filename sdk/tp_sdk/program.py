@@ -8,6 +8,7 @@ import subprocess
 from dataclasses import dataclass
 from pathlib import Path
 
+from tp_sdk import library
 from tp_sdk.faults import Missing
 
 REPOSITORY = Path(__file__).resolve().parents[2]
@@ -24,15 +25,20 @@ class Ended:
 
 @dataclass(frozen=True)
 class Program:
-    """The program, by its path."""
+    """The program, by its path, and the library that answers in its place, where one does."""
 
     path: Path
+    shared: Path | None = None
 
     @classmethod
     def find(cls) -> Program:
-        """The program that the variable `TP` names, else the one that `./tp --prove` builds."""
+        """The program that the variable `TP` names, or the library, else the library that `make -C lib` builds,
+        unless it is older than the program, else the program that `./tp --prove` builds."""
         named = os.environ.get(VARIABLE)
         path = Path(named) if named else REPOSITORY / "crates" / "tp" / "out" / "tp"
+        shared = library.named_by(path) if named else library.newest(REPOSITORY, path)
+        if shared:
+            return cls(path.absolute(), shared)
         if not path.is_file() or shutil.which(str(path.absolute())) is None:
             where = f"{VARIABLE}={path}" if named else str(path.relative_to(REPOSITORY))
             raise Missing(f"there is no program at {where}: './tp --prove' proves and builds it")
@@ -40,6 +46,9 @@ class Program:
 
     def run(self, words: list[str], image: str) -> Ended:
         """Runs the program with these words on an image."""
+        answered = library.answer(self.shared, words, image) if self.shared else None
+        if answered:
+            return Ended(*answered)
         try:
             ended = subprocess.run(
                 [self.path, *words], input=image.encode(), capture_output=True, check=False
