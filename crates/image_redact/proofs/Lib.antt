@@ -1,0 +1,6 @@
+pub mod Names
+pub mod Lists
+pub mod Needs
+pub mod Bounds
+pub mod Kept
+pub mod Alike

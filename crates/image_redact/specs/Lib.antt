@@ -1,0 +1,3 @@
+pub mod Redacted
+pub mod Laws
+pub mod Example
