@@ -13,7 +13,7 @@ kept_domain : (i : Raw) (d : ℕ) → raw_domain (redacted i d).domains d ≡ ra
 unfolding redacted
 kept_domain i d = kept_at i.version d (raw_domain i.domains d).name no_raw_domain 0 d i.domains (omega arith)
 
-long : (i : Raw) (d : ℕ) → length (redacted i d).domains ≡ length i.domains
+pub long : (i : Raw) (d : ℕ) → length (redacted i d).domains ≡ length i.domains
 unfolding redacted
 long i d = same_length i.version d (raw_domain i.domains d).name 0 i.domains
 

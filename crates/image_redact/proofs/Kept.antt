@@ -29,7 +29,7 @@ use Rattle.image_redact.specs.Laws.{FirstSaysNoCalls, AcceptedLaw}
 use Rattle.image_redact.proofs.Names.{bytes_differ, not_kept, apart, a_name}
 use Rattle.image_redact.proofs.Lists.{neither, cases_kept, at, from, at_either, same_length, Placed, placed_each, all_kept}
 use Rattle.image_redact.proofs.Needs.{least_need, exit_need}
-use Rattle.image_redact.proofs.Bounds.{NoMore, each_least, still_padded}
+use Rattle.image_redact.proofs.Bounds.{each_least, still_padded}
 
 -- what is known of domain n before
 record Stood (v d : ℕ) (kept : List ℕ) (n : ℕ) (o : RawDomain) : Type 0 where

@@ -4,3 +4,5 @@ pub mod Needs
 pub mod Bounds
 pub mod Kept
 pub mod Alike
+pub mod Ranges
+pub mod Seen

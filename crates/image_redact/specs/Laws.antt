@@ -1,6 +1,8 @@
 -- What holds of the record that a tenant may hold; the laws are the clauses of the functions of `laws`.
-use Rattle.std.specs.Prelude.{◌≡◌, ◌≢◌, ℕ, ◌<◌, [], length, map, None}
-use Rattle.image_record.specs.Record.{Raw, raw_domain}
+use Rattle.std.specs.Prelude.{◌≡◌, ◌≢◌, ℕ, ◌<◌, List, [], length, map, None}
+use Rattle.image_record.specs.Record.{Raw, raw_domain, InKeyRanges}
+use Rattle.world_view.specs.Harts.{hart_of_domain, slots_of, harts, view_on, view_alone_on}
+use Rattle.world_view.specs.HartLaws.{AreHartsOf, IsBetween}
 use Rattle.image_check.specs.Checking.{broken}
 use Rattle.image_check.specs.Image.{image_from, own_of}
 use Rattle.image_redact.specs.Redacted.{emptied, redacted}
@@ -20,6 +22,26 @@ pub record Alike (i j : Raw) (d : ℕ) : Type 0 where
 
 abbrev pub AlikeLaw : Type 0
 AlikeLaw = (i : Raw) (d : ℕ) → d < length i.domains → Alike i (redacted i d) d
+
+-- its numbers and lists stay in the ranges of their keys
+abbrev pub RangesLaw : Type 0
+RangesLaw = (i : Raw) (d : ℕ) → InKeyRanges i → InKeyRanges (redacted i d)
+
+-- so what is seen of the kept domain alone is the same, after every number of slots
+abbrev pub SeenAloneLaw : Type 0
+SeenAloneLaw = (i : Raw) (d n : ℕ) → d < length i.domains
+    → view_alone_on (image_from i) d n ≡ view_alone_on (image_from (redacted i d)) d n
+
+-- and among the others, in every two orders of the harts' events after which its hart has had as many slots, and has not
+-- begun its next one
+abbrev pub SeenLaw : Type 0
+SeenLaw = (i : Raw) (d : ℕ) (one two : List ℕ) → InKeyRanges i → FirstSaysNoCalls i → broken i ≡ []
+    → d < length i.domains →
+    let x = image_from i in
+    let y = image_from (redacted i d) in
+    let h = hart_of_domain x d in
+    AreHartsOf x one → AreHartsOf y two → slots_of h (harts x one) ≡ slots_of h (harts y two)
+    → IsBetween x h (harts x one) → IsBetween y h (harts y two) → view_on x d (harts x one) ≡ view_on y d (harts y two)
 
 -- there is nothing more to take
 abbrev pub AgainLaw : Type 0
