@@ -1,0 +1,40 @@
+"""tp-verify: whether a report's section of a domain is what an image gives."""
+
+from __future__ import annotations
+
+from argparse import ArgumentParser, RawDescriptionHelpFormatter
+from pathlib import Path
+
+from tp_sdk.faults import EXIT_CODES, INPUT_AT_FAULT, read_text
+from tp_sdk.program import Program
+from tp_sdk.report import parse_report
+from tp_sdk.verify import Held
+
+_HELP = """Runs one domain of an image alone, for as many slots as a report tells of, and compares
+the section that it has then with the report's, byte for byte.
+
+  tp-verify mine.toml theirs.report --domain mine
+
+The image need not be the one that was run: it must say the same to all domains, and the same of
+this one. What the others have in it makes no difference. Of two sections that differ, the first
+line that does is told, and the exit code is 1."""
+
+
+def main(words: list[str]) -> int:
+    """Tells that the sections are the same, or the first line that differs."""
+    parser = ArgumentParser(
+        "tp-verify", description=_HELP, epilog=EXIT_CODES, formatter_class=RawDescriptionHelpFormatter
+    )
+    parser.add_argument("image", type=Path, help="an image with this domain and the same schedule")
+    parser.add_argument("report", type=Path, help="the report")
+    parser.add_argument("--domain", required=True, metavar="NAME", help="the domain")
+    asked = parser.parse_args(words)
+    report = parse_report(read_text(asked.report), str(asked.report))
+    held = Held.read(asked.image, asked.domain)
+    slots = held.slots_of(report)
+    difference = held.difference(Program.find(), report)
+    if difference is None:
+        print(f"{asked.domain}: the section of {slots} slots is the same")
+        return 0
+    print(f"{asked.report}:{difference.line}: {difference}")
+    return INPUT_AT_FAULT

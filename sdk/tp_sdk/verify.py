@@ -1,0 +1,76 @@
+"""Whether a report's section of a domain is what an image gives that its tenant holds."""
+
+from __future__ import annotations
+
+import tomllib
+from dataclasses import dataclass
+from itertools import zip_longest
+from pathlib import Path
+
+from tp_sdk.faults import Fault, read_text
+from tp_sdk.program import Program
+from tp_sdk.refusals import Image
+from tp_sdk.report import Report
+from tp_sdk.schedule import domain_names, entries_of, slots_of_each
+
+
+@dataclass(frozen=True)
+class Difference:
+    """The first line of a section that differs: what the report has at that line, and what the image gives."""
+
+    line: int
+    reported: str
+    given: str
+
+    def __str__(self) -> str:
+        reported = f"'{self.reported}'" if self.reported else "the end of the section"
+        given = f"'{self.given}'" if self.given else "the end of the section"
+        return f"the report has {reported}, and the image gives {given}"
+
+
+@dataclass(frozen=True)
+class Held:
+    """An image in which a domain is its tenant's own."""
+
+    file: str
+    text: str
+    image: Image
+    name: str
+
+    @classmethod
+    def read(cls, file: Path, name: str) -> Held:
+        """The image of a file, which must have the domain."""
+        text = read_text(file)
+        try:
+            image = tomllib.loads(text)
+        except tomllib.TOMLDecodeError as error:
+            raise Fault(f"{file}: no image: {error}") from None
+        names = domain_names(image)
+        if name not in names:
+            raise Fault(f"{file}: there is no domain '{name}': it has {', '.join(names) or 'none'}")
+        return cls(str(file), text, image, name)
+
+    def slots_of(self, report: Report) -> int:
+        """How many slots each hart had by a report."""
+        if report.off is not None:
+            raise Fault(
+                f"the report is of a machine without its guard {report.off}, of which nothing is promised"
+            )
+        entries = entries_of(self.image, self.file)
+        if [it.entry for it in report.switches] != list(range(len(entries))):
+            raise Fault(f"{self.file} has {len(entries)} entries, and the report {len(report.switches)}")
+        return slots_of_each(entries, report)
+
+    def difference(self, program: Program, report: Report) -> Difference | None:
+        """The first line in which the domain's section differs, if there is one."""
+        section = report.section(self.name)
+        domain = domain_names(self.image).index(self.name)
+        words = ["alone", "--domain", str(domain), "--slots", str(self.slots_of(report))]
+        ended = program.run(words, self.text)
+        if ended.code != 0:
+            raise Fault(f"{self.file}: tp {' '.join(words)} answers '{ended.text.strip()}'")
+        reported = [f"domain {section.number} {section.name}", *section.text.splitlines()]
+        for line, (had, gives) in enumerate(zip_longest(reported, ended.text.splitlines(), fillvalue="")):
+            if had != gives:
+                return Difference(section.line + line, had, gives)
+        return None
