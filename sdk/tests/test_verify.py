@@ -30,6 +30,15 @@ def test_the_section_is_that_of_the_host(program: Program) -> None:
     assert (ended.returncode, ended.stdout) == (0, "spy: the section of 24 slots is the same\n")
 
 
+def test_the_section_alone(program: Program, tmp_path: Path) -> None:
+    section = parse_report(REPORT.read_text(), "report").section("spy")
+    alone = tmp_path / "spy.section"
+    alone.write_text(f"domain 1 spy\n{section.text}")
+    ended = run_tool("tp-verify", REDACTED, alone, "--domain", "spy", "--slots", "24")
+    assert (ended.returncode, ended.stdout) == (0, "spy: the section of 24 slots is the same\n")
+    assert run_tool("tp-verify", REDACTED, alone, "--domain", "spy", "--slots", "23").returncode == 1
+
+
 def test_the_first_line_that_differs_is_told(program: Program, tmp_path: Path) -> None:
     lines = REPORT.read_text().splitlines()
     place = next(at for at, line in enumerate(lines) if line == "domain 1 spy")
@@ -45,7 +54,7 @@ def test_the_first_line_that_differs_is_told(program: Program, tmp_path: Path) -
 def test_the_others_section_is_another(program: Program) -> None:
     report = parse_report(REPORT.read_text(), "report")
     with pytest.raises(Fault, match="the report has no domain 'e0'"):
-        Held.read(REDACTED, "e0").difference(program, report)
+        Held.read(REDACTED, "e0").difference(program, report, 24)
 
 
 def test_a_domain_that_is_not_there() -> None:

@@ -14,6 +14,11 @@ from tp_sdk.report import Report
 from tp_sdk.schedule import domain_names, entries_of, slots_of_each
 
 
+def with_end(text: str) -> str:
+    """A section that stands alone, as a report."""
+    return text if text.endswith("end\n") else f"{text}end\n"
+
+
 @dataclass(frozen=True)
 class Difference:
     """The first line of a section that differs: what the report has at that line, and what the image gives."""
@@ -61,11 +66,11 @@ class Held:
             raise Fault(f"{self.file} has {len(entries)} entries, and the report {len(report.switches)}")
         return slots_of_each(entries, report)
 
-    def difference(self, program: Program, report: Report) -> Difference | None:
-        """The first line in which the domain's section differs, if there is one."""
+    def difference(self, program: Program, report: Report, slots: int) -> Difference | None:
+        """The first line in which the domain's section after so many slots differs, if there is one."""
         section = report.section(self.name)
         domain = domain_names(self.image).index(self.name)
-        words = ["alone", "--domain", str(domain), "--slots", str(self.slots_of(report))]
+        words = ["alone", "--domain", str(domain), "--slots", str(slots)]
         ended = program.run(words, self.text)
         if ended.code != 0:
             raise Fault(f"{self.file}: tp {' '.join(words)} answers '{ended.text.strip()}'")

@@ -8,12 +8,16 @@ from pathlib import Path
 from tp_sdk.faults import EXIT_CODES, INPUT_AT_FAULT, read_text
 from tp_sdk.program import Program
 from tp_sdk.report import parse_report
-from tp_sdk.verify import Held
+from tp_sdk.schedule import slot_count
+from tp_sdk.verify import Held, with_end
 
 _HELP = """Runs one domain of an image alone, for as many slots as a report tells of, and compares
 the section that it has then with the report's, byte for byte.
 
   tp-verify mine.toml theirs.report --domain mine
+  tp-verify mine.toml mine.section --domain mine --slots 24
+
+The second takes the section alone, as `tp alone` writes it, and how many slots its hart had.
 
 The image need not be the one that was run: it must say the same to all domains, and the same of
 this one. What the others have in it makes no difference. Of two sections that differ, the first
@@ -26,13 +30,20 @@ def main(words: list[str]) -> int:
         "tp-verify", description=_HELP, epilog=EXIT_CODES, formatter_class=RawDescriptionHelpFormatter
     )
     parser.add_argument("image", type=Path, help="an image with this domain and the same schedule")
-    parser.add_argument("report", type=Path, help="the report")
+    parser.add_argument("report", type=Path, help="the report, or the section alone")
     parser.add_argument("--domain", required=True, metavar="NAME", help="the domain")
+    parser.add_argument(
+        "--slots",
+        type=slot_count,
+        metavar="N",
+        help="how many slots its hart had, where a section stands alone",
+    )
     asked = parser.parse_args(words)
-    report = parse_report(read_text(asked.report), str(asked.report))
+    text = read_text(asked.report)
+    report = parse_report(text if asked.slots is None else with_end(text), str(asked.report))
     held = Held.read(asked.image, asked.domain)
-    slots = held.slots_of(report)
-    difference = held.difference(Program.find(), report)
+    slots = held.slots_of(report) if asked.slots is None else asked.slots
+    difference = held.difference(Program.find(), report, slots)
     if difference is None:
         print(f"{asked.domain}: the section of {slots} slots is the same")
         return 0
