@@ -383,6 +383,22 @@ pub unprefetched : blue_reads guard.Prefetch timed_prints ≡ 22300 ∷ 22771 �
 unfolding everything
 unprefetched = refl
 
+-- Red and blue on a machine of lines of 128 bytes, one to a set: without colours there are 32 sets, and red's call
+-- finds a line gone that it would find with 64.
+abbrev pub wide_machine : Hardware
+wide_machine = record small_machine { line = 128; l2 = record { sets = 128; ways = 1; policy = Lru } }
+
+abbrev pub on_wide_lines : Image
+on_wide_lines = record timed_prints { all = record timed_prints.all { hardware = wide_machine } }
+
+pub uncoloured_reads : (dom_of (whole_off guard.Colour on_wide_lines 1) 0).readings ≡ 6150 ∷ 6421 ∷ []
+unfolding everything
+uncoloured_reads = refl
+
+pub coloured_reads : (dom_of (whole on_wide_lines 1) 0).readings ≡ 6150 ∷ 6381 ∷ []
+unfolding everything
+coloured_reads = refl
+
 -- its slot begins where the work of the switch ended
 pub unpadded : blue_reads guard.Pad timed_prints ≡ 11575 ∷ 12046 ∷ []
 unfolding everything
