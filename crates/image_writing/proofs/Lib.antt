@@ -1,0 +1,9 @@
+pub mod Inserts
+pub mod Items
+pub mod Looks
+pub mod Recorded
+pub mod Whole
+pub mod Depth
+pub mod Writable
+pub mod ReadBack
+pub mod Mapped
