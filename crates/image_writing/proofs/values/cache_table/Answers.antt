@@ -1,4 +1,4 @@
-use Rattle.std.proofs.Common.{◌≡◌, pos, string_bytes, ap}
+use Rattle.std.proofs.Common.{◌≡◌, string_bytes, ap}
 use Rattle.toml.specs.Data.{string, integer, no_members}
 use Rattle.toml.specs.View.{table_view, members_view}
 use Rattle.image_writing.specs.Data.{cache_members}

@@ -1,5 +1,5 @@
-use Rattle.std.proofs.Common.{◌≡◌, pos, string_bytes, ap}
-use Rattle.toml.specs.Data.{string, integer, no_members}
+use Rattle.std.proofs.Common.{◌≡◌, ap}
+use Rattle.toml.specs.Data.{integer, no_members}
 use Rattle.toml.specs.View.{table_view, members_view}
 use Rattle.image_writing.specs.Data.{entry_members}
 use Rattle.image_writing.proofs.values.entry_table.Goals as goal
