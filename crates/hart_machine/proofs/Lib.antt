@@ -6,3 +6,4 @@ pub mod Events
 pub mod Reached
 pub mod IsMachine
 pub mod Reports
+pub mod LeastClock

@@ -20,7 +20,7 @@ pub record IsReached (i : Image) (s : Harts) : Type 0 where
   pub of_harts : AreHartsOf i order
   pub comes_to : s ≡ harts i order
 
--- equal in all that a hart and its domains have: its core and clock, and each domain's own state, its frames and its sets
+-- equal in all that a hart and its domains have: its core and clock, and each domain's state, frames and sets
 pub record SameParts (i : Image) (h : ℕ) (w v : World) : Type 0 where
   pub hart : hart_of h w ≡ hart_of h v
   pub domains : (d : ℕ) → IsDomain i d → hart_of_domain i d ≡ h

@@ -10,6 +10,8 @@ use Rattle.world_view.specs.Machine.{clock_of}
 use Rattle.world_view.specs.Relations.{IsDomain}
 use Rattle.world_view.specs.Harts.{Harts, harts, view_on}
 use Rattle.world_view.specs.HartLaws.{AreHartsOf}
+use Rattle.hart_orders.specs.declared.choice.Choice.TheVariants.{LeastClock}
+use Rattle.hart_orders.specs.Order.{ran}
 use Rattle.hart_machine.specs.HartMachine.{machine_of}
 
 -- ---- by the least clock, from the first event until each hart has had n slots
@@ -24,17 +26,21 @@ event_by_event i n = by_events (machine_of i) n (enough i n) (harts i [])
 abbrev pub slot_by_slot : Image → ℕ → Ran Harts
 slot_by_slot i n = by_slots (machine_of i) n (enough i n) (harts i [])
 
--- all that a report tells: what is seen of each domain, what each switch took, in their order, and each hart's clock
+-- the same is seen of each domain, switches took the same, in their order, and each hart's clock is the same
 pub record SameReport (i : Image) (s t : Harts) : Type 0 where
   pub seen : (d : ℕ) → IsDomain i d → view_on i d s ≡ view_on i d t
   pub used : s.world.used ≡ t.world.used
   pub clocks : (h : ℕ) → h < harts_in i.all.schedule → clock_of h s.world ≡ clock_of h t.world
 
--- event by event each hart comes to have had its slots
+-- event by event a run comes to where the order of the least clock leads
+abbrev pub RanLaw : Type 0
+RanLaw = (i : Image) (n : ℕ) → ran i LeastClock n ≡ (event_by_event i n).world.world
+
+-- there each hart has had its slots
 abbrev pub ThroughLaw : Type 0
 ThroughLaw = (i : Image) (n : ℕ) → Runnable i → AreThrough (machine_of i) n (event_by_event i n).world
 
--- slot by slot the report is the same, and so are the switches: at which clock, and of which hart, in their order
+-- slot by slot the report is the same, and so are the switches: at which clock, and of which hart each was
 abbrev pub SlotBySlotLaw : Type 0
 SlotBySlotLaw = (i : Image) (n : ℕ) → Runnable i →
     let slow = event_by_event i n in
@@ -47,8 +53,8 @@ SwitchOrderLaw = (i : Image) (n : ℕ) → Runnable i → laws.AreSorted (slot_b
 
 -- ---- in any other order of events
 
--- each slot is run whole when its switch comes, and its events are counted off: where no hart is in a slot the report is the
--- same, and no event is owed
+-- each slot is run whole when its switch comes, and its events are counted off: where no hart is in a slot the
+-- report is the same, and no event is owed
 abbrev pub CountedOffLaw : Type 0
 CountedOffLaw = (i : Image) (order : List ℕ) → Runnable i → AreHartsOf i order
     → AreBetween (machine_of i) (harts i order) →

@@ -1,10 +1,11 @@
 //! Laws over the definitions, each the contract of a function that does nothing: a caller
 //! that calls it may rely on the law.
-ghost use Rattle.hart_machine.specs.Laws.{ThroughLaw, SlotBySlotLaw, SwitchOrderLaw, CountedOffLaw, PartsLaw, AnyOrderPartsLaw, DrawnPartsLaw, HartsCommuteLaw, HartsPassLaw};
+ghost use Rattle.hart_machine.specs.Laws.{RanLaw, ThroughLaw, SlotBySlotLaw, SwitchOrderLaw, CountedOffLaw, PartsLaw, AnyOrderPartsLaw, DrawnPartsLaw, HartsCommuteLaw, HartsPassLaw};
 
 /// By the least clock, slot by slot: the report is that of the run event by event, and the
 /// switches come by their clocks, and then by their harts' numbers.
 pub fn slots()
+    ensures ran { RanLaw }
     ensures through { ThroughLaw }
     ensures same { SlotBySlotLaw }
     ensures order { SwitchOrderLaw }
