@@ -2,15 +2,17 @@
 
 from __future__ import annotations
 
+import os
 import re
 import shutil
 import subprocess
+import sys
 from dataclasses import dataclass, field
 from pathlib import Path
 
 from conftest import SDK
 
-from tp_sdk.program import REPOSITORY, Program
+from tp_sdk.program import REPOSITORY, VARIABLE, Program
 
 # What stands for the top of the repository in a page.
 _PATH = re.compile(r"\bPATH/")
@@ -83,21 +85,29 @@ class Reader:
 
     top: Path
     own: Path
+    variables: dict[str, str]
 
     @classmethod
     def begin(cls, folder: Path, program: Program, built: Path) -> Reader:
         """A copy with the programs of sdk/c built."""
-        reader = cls(folder / "top", folder / "own")
+        paths = f"{folder / 'bin'}:{os.environ['PATH']}"
+        reader = cls(folder / "top", folder / "own", {"PATH": paths, VARIABLE: str(program.path)})
         reader.own.mkdir()
         shutil.copytree(SDK, reader.top / "sdk", ignore=shutil.ignore_patterns("c", "tests", "out"))
         (reader.top / "sdk" / "c").symlink_to(built)
         (reader.top / "examples").symlink_to(REPOSITORY / "examples")
         (reader.top / "tp").symlink_to(program.path)
+        # (the tools then look for no other Python than that of the tests, which has all libraries)
+        python = folder / "bin" / "python3"
+        python.parent.mkdir()
+        python.write_text(f'#!/bin/sh\nexec {sys.executable} "$@"\n')
+        python.chmod(0o755)
         return reader
 
     def follow(self, page: Path, folder: Path) -> None:
         """Lays down each file, runs each command, and compares what it writes. Commands are for this
         folder, but those with PATH for a folder of one's own, where the files are."""
+        variables = os.environ | self.variables
         for it in read_page(page):
             if isinstance(it, File):
                 file = self.own / it.name
@@ -106,7 +116,9 @@ class Reader:
             elif it.is_run:
                 place = self.own if _PATH.search(it.text) else folder
                 command = ["bash", "-c", self._with_path(it.text)]
-                ended = subprocess.run(command, cwd=place, capture_output=True, text=True, check=False)
+                ended = subprocess.run(
+                    command, cwd=place, env=variables, capture_output=True, text=True, check=False
+                )
                 written = (ended.stderr + ended.stdout).splitlines()
                 assert (it.text, written) == (it.text, it.due)
 
