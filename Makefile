@@ -15,7 +15,9 @@ ZSH := $(BASE)/share/zsh/site-functions
 DOC := $(BASE)/share/doc/kizhombai
 TEXTS := front/out
 TOOLS := $(notdir $(wildcard sdk/tp-*))
-COPY = tar -cf - --exclude=__pycache__ --exclude=out
+COPY := tar -cf - --exclude=__pycache__ --exclude=out --exclude=sdk/tests --exclude=sdk/check
+SHELL := /bin/bash
+.SHELLFLAGS := -o pipefail -c
 
 .PHONY: help is_proved texts install uninstall
 help:
@@ -34,7 +36,7 @@ install: is_proved texts
 	install crates/tp/out/tp $(LIB)/crates/tp/out/tp
 	install tp $(LIB)/tp
 	install -m 644 VERSION $(TEXTS)/certificate.json $(LIB)
-	$(COPY) front sdk --exclude=sdk/tests --exclude=sdk/check | tar -xf - -C $(LIB)
+	$(COPY) front sdk | tar -xf - -C $(LIB)
 	for tool in tp $(addprefix sdk/,$(TOOLS)); do ln -sf ../lib/kizhombai/$$tool $(BASE)/bin/; done
 	install -m 644 $(TEXTS)/man1/*.1 $(MAN)
 	install -m 644 $(TEXTS)/tp $(BASH)/tp

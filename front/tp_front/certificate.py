@@ -45,8 +45,7 @@ def _write(is_proved: bool) -> int:
 
 
 def _made(sources: Sources) -> dict[str, Any]:
-    commit = _said("git", "-C", str(TOP), "rev-parse", "HEAD")
-    changed = _said("git", "-C", str(TOP), "status", "--porcelain", "--", "crates", "crates.txt", "HANDLES")
+    commit, is_of_it = _commit()
     counts = {one: int(count) for one, count in _COUNTS.all().items()}
     crates = [
         {"name": name, "sources": one, "functions": counts.get(one)} for name, one in sources.crates.items()
@@ -56,8 +55,8 @@ def _made(sources: Sources) -> dict[str, Any]:
         "program": "tp",
         "version": version(),
         "commit": commit,
-        "is_of_that_commit": commit is not None and not changed,
-        "kit": _said("rt", "version"),
+        "is_of_that_commit": is_of_it,
+        "kit": _kit(),
         "sums": "sha256",
         "sources_sum": sources.whole,
         "program_sum": sum_of_file(PROGRAM),
@@ -69,17 +68,18 @@ def _made(sources: Sources) -> dict[str, Any]:
 
 def _check(file: Path) -> int:
     """Says in what the certificate differs from what is here."""
+    sources = Sources.read()
     try:
         found = json.loads(file.read_text())
-        if not isinstance(found, dict) or "sources_sum" not in found:
-            raise ValueError("it is no certificate")
-    except (OSError, ValueError) as error:
-        tell(f"{file}: {getattr(error, 'strerror', None) or error}")
+        differs = _of_program(found)
+        if sources is not None:
+            differs += _of_sources(found, sources) + _of_clauses(found)
+    except OSError as error:
+        tell(f"{file}: {error.strerror}")
         return _USAGE
-    differs = _of_program(found)
-    sources = Sources.read()
-    if sources is not None:
-        differs += _of_sources(found, sources) + _of_clauses(found)
+    except (ValueError, KeyError, TypeError, AttributeError):
+        tell(f"{file} is no certificate")
+        return _USAGE
     for line in differs:
         print(f"differs: {line}")
     if differs:
@@ -94,15 +94,15 @@ def _check(file: Path) -> int:
 def _of_program(found: dict[str, Any]) -> list[str]:
     if not PROGRAM.is_file():
         return ["there is no program here: ./tp --prove proves and builds it"]
-    if sum_of_file(PROGRAM) == found.get("program_sum"):
+    if sum_of_file(PROGRAM) == found["program_sum"]:
         return []
     kit = _said("rt", "version")
-    by = f", by another kit: {kit}, and not {found.get('kit')}" if kit not in (None, found.get("kit")) else ""
+    by = f", by another kit: {kit}, and not {found['kit']}" if kit not in (None, found["kit"]) else ""
     return [f"the program is another{by}"]
 
 
 def _of_sources(found: dict[str, Any], sources: Sources) -> list[str]:
-    said = {str(crate.get("name")): crate.get("sources") for crate in found.get("crates", [])}
+    said = {crate["name"]: crate["sources"] for crate in found["crates"]}
     differs = [f"there is no crate {name}" for name in said if name not in sources.crates]
     differs += [f"the crate {name} is new" for name in sources.crates if name not in said]
     differs += [
@@ -110,13 +110,13 @@ def _of_sources(found: dict[str, Any], sources: Sources) -> list[str]:
         for name, one in sources.crates.items()
         if said.get(name, one) != one
     ]
-    if not differs and sources.whole != found.get("sources_sum"):
+    if not differs and sources.whole != found["sources_sum"]:
         differs.append("the sum of all sources")
     return differs
 
 
 def _of_clauses(found: dict[str, Any]) -> list[str]:
-    said = list(found.get("top_call", {}).get("clauses", []))
+    said = list(found["top_call"]["clauses"])
     here = _clauses()
     differs = [f"tp_main has no clause {name}" for name in said if name not in here]
     return differs + [f"tp_main has a clause {name} more" for name in here if name not in said]
@@ -143,6 +143,23 @@ def count(log: Path, top: Path) -> int:
             counts[sources.crates[crate]] = int(functions)
     _COUNTS.keep(counts)
     return 0
+
+
+def _commit() -> tuple[str | None, bool]:
+    """The commit that is checked out here, and whether the sources are its own."""
+    git = ("git", "-C", str(TOP))
+    if _said(*git, "rev-parse", "--show-toplevel") != str(TOP):
+        return None, False
+    changed = _said(*git, "status", "--porcelain", "--", "crates", "crates.txt", "HANDLES")
+    return _said(*git, "rev-parse", "HEAD"), changed == ""
+
+
+def _kit() -> str | None:
+    """The kit's line: that which the proof left beside the program, else that of the kit that is here."""
+    left = PROGRAM.with_name("kit")
+    if left.is_file() and left.stat().st_mtime >= PROGRAM.stat().st_mtime:
+        return left.read_text().strip()
+    return _said("rt", "version")
 
 
 def _said(*command: str) -> str | None:

@@ -8,7 +8,9 @@ from tp_front.table import Command, Option, Table
 def bash(table: Table) -> str:
     """The completion of bash."""
     flags = "\n".join(f"        {it.name}) flags='{_flags(it)}' ;;" for it in table.commands)
-    values = "\n".join(f"        {it.flag}) words='{' '.join(it.words)}' ;;" for it in table.options)
+    values = "\n".join(
+        f"        {it.flag}) words='{' '.join(it.words)}' ;;" for it in table.options if it.words
+    )
     names = " ".join([*(it.name for it in table.commands), *own_words(table)])
     readers = "|".join(it.name for it in table.commands if it.reads)
     return f"""# bash completion of tp, made of front/words.toml

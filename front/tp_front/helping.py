@@ -37,8 +37,7 @@ def one(command: Command, table: Table) -> str:
     parts = [f"tp {command.usage}: {command.what}.", command.text]
     image = [("IMAGE", "the image's file; without one, standard input is read")] if command.reads else []
     parts += [_rows([*_options(command.options), *image]), f"for example:\n  {_NAME} {command.example}"]
-    codes = [row for row in table.exits if command.reads or row.name not in ("1", "3", "6")]
-    parts.append("exit codes:\n" + _rows((row.name, row.what) for row in codes))
+    parts.append("exit codes:\n" + _rows((row.name, row.what) for row in table.exits_of(command)))
     return "\n\n".join(parts) + "\n"
 
 

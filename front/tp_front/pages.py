@@ -57,7 +57,7 @@ def _one(command: Command, table: Table) -> str:
             _section("SYNOPSIS", usage + "\n"),
             _section("DESCRIPTION", _text(command.text)),
             _section("OPTIONS", _options(command.options)) if command.options else "",
-            _section("EXIT STATUS", _rows((row.name, row.what) for row in table.exits)),
+            _section("EXIT STATUS", _rows((row.name, row.what) for row in table.exits_of(command))),
             _section("EXAMPLES", _example(command)),
             _section("SEE ALSO", _text((other if command.name == "run" else "") + f"tp(1), {_SEE_ALSO}")),
         ]
@@ -74,7 +74,7 @@ def _section(name: str, text: str) -> str:
 
 
 def _text(text: str) -> str:
-    return _escaped(text) + "\n"
+    return _escaped(text).replace("\n\n", "\n.PP\n") + "\n"
 
 
 def _example(command: Command) -> str:
@@ -82,11 +82,12 @@ def _example(command: Command) -> str:
 
 
 def _options(options: Iterable[Option]) -> str:
-    rows = []
+    text = ""
     for option in options:
-        rows.append((option.usage, f"{option.what}: {option.range}"))
-        rows += [(f"  {word}", what) for word, what in option.words.items()]
-    return _rows(rows)
+        text += _rows([(option.usage, f"{option.what}: {option.range}")])
+        if option.words:
+            text += f".RS\n{_rows(option.words.items())}.RE\n"
+    return text
 
 
 def _rows(rows: Iterable[tuple[str, str]]) -> str:

@@ -3,10 +3,10 @@
 from __future__ import annotations
 
 import hashlib
+import os
 import subprocess
 import tempfile
 import threading
-import time
 from pathlib import Path
 
 from tp_front.image import Image
@@ -64,15 +64,23 @@ class Measure(threading.Thread):
         """Runs one slot, and more each time."""
         slots = 1
         while slots < self._run.slots and not self._is_over:
-            began = time.monotonic()
-            self._child = self._run.first(slots)
-            if self._child.wait() != 0:
+            took = self._time_of(slots)
+            if took is None:
                 return
-            took = time.monotonic() - began
             if took >= _LEAST_MEASURED:
                 self._run.took(took, slots)
                 return
             slots *= 4
+
+    def _time_of(self, slots: int) -> float | None:
+        """The processor's time that so many slots take, whatever else runs; none where they did not end well."""
+        self._child = self._run.first(slots)
+        try:
+            _, status, used = os.wait4(self._child.pid, 0)
+        except ChildProcessError:
+            return None
+        self._child.returncode = os.waitstatus_to_exitcode(status)
+        return used.ru_utime + used.ru_stime if status == 0 else None
 
     def stop(self) -> None:
         """Gives up."""

@@ -9,6 +9,9 @@ from typing import Any
 from tp_front.places import TABLE
 
 
+_OF_IMAGES = ("1", "3", "6")
+
+
 @dataclass(frozen=True)
 class Option:
     """An option: a whole number from 0 to the greatest, or one of these words."""
@@ -90,6 +93,10 @@ class Table:
     def command(self, name: str) -> Command | None:
         """The command of that name."""
         return next((command for command in self.commands if command.name == name), None)
+
+    def exits_of(self, command: Command) -> list[Row]:
+        """How a command may end: one that reads no image can't find it at fault."""
+        return [row for row in self.exits if command.reads or row.name not in _OF_IMAGES]
 
 
 def load() -> Table:

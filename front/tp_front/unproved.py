@@ -14,7 +14,7 @@ import subprocess
 import tempfile
 import time
 from collections.abc import Iterator
-from contextlib import contextmanager
+from contextlib import contextmanager, suppress
 from pathlib import Path
 
 from tp_front import refusals, table
@@ -25,6 +25,7 @@ NO_PROGRAM = 125
 _USAGE = 2
 _MOST_KEPT = 3
 _SECONDS = 600
+_SECONDS_TO_END = 20
 _LONG_RUN = ["run", "--slots", "65536"]
 _TRIAL = ["gen", "--seed", "0"]
 
@@ -109,8 +110,15 @@ def _trying(room: Path, said: Path) -> Iterator[subprocess.Popen[bytes]]:
         try:
             yield run
         finally:
-            os.killpg(run.pid, signal.SIGKILL)
-            run.wait()
+            _end(run)
+
+
+def _end(run: subprocess.Popen[bytes]) -> None:
+    """Ends `rt try`, which then ends what it started in sessions of their own."""
+    for number in (signal.SIGTERM, signal.SIGKILL):
+        with suppress(ProcessLookupError, subprocess.TimeoutExpired):
+            os.killpg(run.pid, number)
+            run.wait(_SECONDS_TO_END)
 
 
 def _executables(room: Path) -> list[Path]:

@@ -14,29 +14,34 @@ from types import FrameType
 from tp_front import refusals
 from tp_front.image import Image, read_all
 from tp_front.rates import Measure, Run
-from tp_front.table import load
+from tp_front.table import Words, load
 
 _SILENT = 3.0
 _STEP = 1.0
-_RUNS = ("run", "harts", "alone", "ablate")
 _USAGE = 2
 _INTERRUPTED = 130
 
 
 def run(program: Path, words: list[str]) -> int:
     """Runs the program on standard input; on standard error is a line that is renewed while it goes on."""
-    if sys.stdin.isatty() or words[0] not in _RUNS:
+    table = load()
+    command = table.command(Words.of(words).command)
+    is_run = command is not None and command.reads and command.option("--slots") is not None
+    try:
+        text = read_all() if is_run and not os.isatty(0) else None
+    except OSError:
+        text = None
+    if text is None:
         os.execv(program, [str(program), *words])
-    text = read_all()
     # On a terminal the program's text must not meet that line.
-    shown = subprocess.PIPE if sys.stdout.isatty() else None
+    shown = subprocess.PIPE if os.isatty(1) else None
     with tempfile.TemporaryFile() as given:
         given.write(text)
         given.seek(0)
         child = subprocess.Popen([program, *words], stdin=given, stdout=shown)
     code = _watched(child, Run(program, words, text))
     if code == _USAGE:
-        refusals.tell_why(load(), words, Image.read(text))
+        refusals.tell_why(table, words, Image.read(text))
     return code
 
 
