@@ -1,10 +1,8 @@
 -- What is seen after a run.
-use Rattle.std.proofs.Common.{◌≡◌, ◌∙◌, ℕ, ◌≤◌, List, sym, ap, ap₂}
+use Rattle.std.proofs.Common.{◌≡◌, ◌∙◌, ℕ, ◌≤◌, sym, ap, ap₂}
 use Rattle.sched_table.specs.Schedule.{entry_in}
 use Rattle.image_check.specs.Image.{Image, own_of}
 use Rattle.image_check.specs.Laws.{Runnable}
-use Rattle.call_table.specs.Domain.{Dom}
-use Rattle.world_view.specs.Event.{Storage}
 use Rattle.world_view.specs.Machine.{whole}
 use Rattle.world_view.specs.View.{view, view_in}
 use Rattle.world_view.specs.Used.{largest_of}
@@ -24,7 +22,7 @@ module _ (i : Image) (c : Choice) (n : ℕ) (r : Runnable i) where
   of_one_hart one =
       let same = one_hart_run i c n r one in
       same_report i (whole i n) (λ d. view_in i d (world_after i c n))
-      (λ d is. ap₂ (λ (x : Dom) (s : Storage). view i.all.hardware (own_of i d) x s) (same.doms d) same.storage)
+      (λ d is. ap₂ (view i.all.hardware (own_of i d)) (same.doms d) same.storage)
       ∙ ap (report_with i (λ d. view_in i d (world_after i c n))) same.used
 
   -- of each domain what is seen of it alone

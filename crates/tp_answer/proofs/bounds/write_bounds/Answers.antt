@@ -11,7 +11,6 @@ use Rattle.image_check.specs.Own.{Own}
 use Rattle.image_check.specs.Pads.{shape_for_every_call}
 use Rattle.image_check.specs.Image.{Image, image_from}
 use Rattle.tp_report.specs.Report.{bound_in_parts, bound_text, bound_2_text, bounds_of}
-use Rattle.tp_answer.specs.Answer.{Answer}
 use Rattle.tp_answer.specs.TopCall.{Delivers}
 use Rattle.tp_answer.specs.declared.status.Status.TheVariants.{Done}
 use Rattle.tp_answer.proofs.Answers.{delivered, nothing_held}

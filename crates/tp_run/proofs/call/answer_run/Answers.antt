@@ -1,8 +1,7 @@
-use Rattle.std.proofs.Common.{◌∙◌, sym, ap, subst, ℕ}
+use Rattle.std.proofs.Common.{◌∙◌, sym, ap, subst}
 use Rattle.tp_io.specs.Sink.{state}
 use Rattle.image_check.specs.Image.{image_from}
 use Rattle.hart_orders.specs.declared.choice.Choice.{Choice}
-use Rattle.hart_orders.specs.declared.choice.Choice.TheVariants.{LeastClock, Drawn}
 use Rattle.tp_answer.specs.Answer.{Answer, answer_of_image}
 use Rattle.tp_answer.specs.Reading.{image_for}
 use Rattle.tp_answer.specs.Runs.{report}

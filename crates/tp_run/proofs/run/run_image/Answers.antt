@@ -1,12 +1,10 @@
-use Rattle.std.proofs.Common.{◌≡◌, ◌≢◌, ◌∙◌, ℕ, List, true≢false, eq-eqb, eqb-true, sym, ap, ap₂, subst, refl}
+use Rattle.std.proofs.Common.{◌≡◌, ◌∙◌, ℕ, List, eqb-true, sym, ap, ap₂, subst}
 use Rattle.image_record.specs.Record as text
 use Rattle.sched_table.specs.Schedule.{harts_in}
 use Rattle.image_check.specs.Image.{image_from}
-use Rattle.world_view.specs.Machine.{World}
 use Rattle.hart_orders.specs.Order.{ran}
 use Rattle.hart_orders.specs.declared.choice.Choice.{Choice}
 use Rattle.tp_io.specs.Sink.{state}
-use Rattle.tp_report.specs.Report as machine
 use Rattle.tp_report.specs.Report.{report_of}
 use Rattle.tp_answer.specs.Runs.{report}
 use Rattle.tp_answer.specs.declared.status.Status.TheVariants.{Done}
