@@ -15,6 +15,7 @@ sys.path.insert(0, str(SDK))
 
 from tp_sdk.faults import Missing  # noqa: E402
 from tp_sdk.program import REPOSITORY, Program  # noqa: E402
+from tp_sdk.python import DEBIANS  # noqa: E402
 
 CFLAGS = "CFLAGS=-Os -g -Wall -Wextra -Werror"
 COMPILER = os.environ.get("CROSS", "riscv64-unknown-elf-") + "gcc"
@@ -34,6 +35,22 @@ def run_tool(name: str, *words: str | Path, given: str = "") -> subprocess.Compl
     """Runs a command of the kit as a user does."""
     command = [sys.executable, SDK / name, *words]
     return subprocess.run(command, input=given, capture_output=True, text=True, check=False)
+
+
+def bare_python(library: str, folder: Path) -> Path:
+    """A Python that lacks a library, where Debian's own has it."""
+    has = ["-c", f"import tomllib, {library}"]
+    debians = Path(DEBIANS)
+    if not debians.exists() or subprocess.run([debians, *has], capture_output=True, check=False).returncode:
+        pytest.skip(f"{DEBIANS} has no {library}")
+    # (a virtual environment is no more than this, and has no libraries)
+    home = Path(sys.base_prefix) / "bin"
+    (folder / "pyvenv.cfg").write_text(f"home = {home}\ninclude-system-site-packages = false\n")
+    (folder / "bin").mkdir()
+    bare = folder / "bin" / "python3"
+    bare.symlink_to(Path(sys.executable).resolve())
+    assert subprocess.run([bare, *has], capture_output=True, check=False).returncode != 0
+    return bare
 
 
 @pytest.fixture(scope="session")

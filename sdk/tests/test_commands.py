@@ -8,10 +8,8 @@ import sys
 from pathlib import Path
 
 import pytest
-from conftest import REPOSITORY, SDK, run_tool
+from conftest import REPOSITORY, SDK, bare_python, run_tool
 from elf_files import Elf, Load, R, X
-
-from tp_sdk.python import DEBIANS
 
 LIBRARIES = {
     "tp-image": "elftools",
@@ -50,20 +48,36 @@ def test_a_command_is_run_from_any_folder(tool: str, tmp_path: Path) -> None:
     assert run_tool(str(link), "--help").returncode == 0
 
 
-@pytest.mark.parametrize("tool", ("tp-image", "tp-run", "tp-report", "tp-plot"))
+@pytest.mark.parametrize("tool", ("tp-image", "tp-report", "tp-plot"))
 def test_a_python_without_the_library_leaves_it_to_debians(tool: str, tmp_path: Path) -> None:
-    debians = [DEBIANS, "-c", f"import tomllib, {LIBRARIES[tool]}"]
-    if not Path(DEBIANS).exists() or subprocess.run(debians, capture_output=True, check=False).returncode:
-        pytest.skip(f"{DEBIANS} has no {LIBRARIES[tool]}")
-    # (a virtual environment is no more than this, and has no libraries)
-    home = Path(sys.base_prefix) / "bin"
-    (tmp_path / "pyvenv.cfg").write_text(f"home = {home}\ninclude-system-site-packages = false\n")
-    (tmp_path / "bin").mkdir()
-    bare = tmp_path / "bin" / "python3"
-    bare.symlink_to(Path(sys.executable).resolve())
-    assert subprocess.run([bare, *debians[1:]], capture_output=True, check=False).returncode != 0
-    ended = subprocess.run([bare, SDK / tool, "--help"], capture_output=True, text=True, check=False)
-    assert ended.returncode == 0 and ended.stdout.startswith(f"usage: {tool}")
+    bare = bare_python(LIBRARIES[tool], tmp_path)
+    (tmp_path / "mine.elf").write_bytes(Elf([Load(0x10000, R | X, bytes(4))]).encode())
+    (tmp_path / "machine.toml").write_text((SDK / "c" / "machine.toml").read_text())
+    text = (SDK / "c" / "hello.toml").read_text().replace("out/hello.elf", "mine.elf")
+    (tmp_path / "mine.toml").write_text(text.replace("length =", "pad = 6150\nlength ="))
+    loud = REPOSITORY / "examples" / "spy-loud"
+    words, told = {
+        "tp-image": (("mine.toml",), 'name = "hello"'),
+        "tp-report": (
+            (f"{loud}.report", "--image", f"{loud}.toml", "--elf", "loud=mine.elf"),
+            "it isn't the program of domain 0",
+        ),
+        "tp-plot": (
+            ("readings", loud.parent / "channels" / "lines" / "run", "--domain", "spy", "-o", "a.svg"),
+            "spy: no",
+        ),
+    }[tool]
+    ended = subprocess.run(
+        [bare, SDK / tool, *words], cwd=tmp_path, capture_output=True, text=True, check=False
+    )
+    assert told in ended.stdout + ended.stderr
+    if tool == "tp-image":
+        # (what was read of standard input by the first Python is there for the other)
+        given = (tmp_path / "mine.toml").read_text()
+        again = subprocess.run(
+            [bare, SDK / tool, "-"], cwd=tmp_path, input=given, capture_output=True, text=True, check=False
+        )
+        assert (again.returncode, again.stdout) == (0, ended.stdout)
 
 
 def test_standard_output_that_is_full() -> None:

@@ -115,17 +115,16 @@ def test_each_way_to_be_stopped() -> None:
 
 
 def test_harts() -> None:
-    # (of the same names and pads as that of two-harts.toml)
-    report = EXAMPLES / "two-domains.report"
     told = {}
     for name in ("two-domains", "two-harts"):
+        report = EXAMPLES / f"{name}.report"
         ended = run_tool("tp-report", report, "--image", EXAMPLES / f"{name}.toml")
         assert ended.returncode == 0
         first, *_, last = ended.stdout.splitlines()
-        told[name] = (first.split(" of ")[0], last.split(": ")[0])
+        told[name] = (first.split(": ")[1].split(" of ")[0], last.split(": ")[0])
     assert told == {
-        "two-domains": (f"{report}: 4 slots", "entry 1 (blue)"),
-        "two-harts": (f"{report}: 4 slots (2 on each", "entry 1 (blue, hart 1)"),
+        "two-domains": ("4 slots", "entry 1 (blue)"),
+        "two-harts": ("4 slots (2 on each", "entry 1 (blue, hart 1)"),
     }
 
 
@@ -332,4 +331,49 @@ def test_programs_that_cannot_be_run(program: object, compiler: str, tmp_path: P
     assert twice.stderr == f"tp-run: {source}: there are two domains 'mine': give the file another name\n"
     assert run_tool("tp-run", tmp_path / "d.toml", "--beside", source, "--slots", "1").returncode == 2
     short = run_tool("tp-run", source, "--slots", "1", "--length", "9")
-    assert "K16, case 3: `length` of entry 0" in short.stderr and short.stderr.startswith("tp-run: tp-run:")
+    assert "K16, case 3: `length` of entry 0" in short.stderr and short.stderr.startswith(
+        "tp-run: --length 9: "
+    )
+
+
+def test_an_image_of_the_same_names_and_pads_that_is_another(program: object, tmp_path: Path) -> None:
+    image = EXAMPLES / "spy-loud.toml"
+    text = image.read_text()
+    other = tmp_path / "other.toml"
+    other.write_text(text.replace('hex = "', 'hex = "13000000', 1))
+    ended = run_tool("tp-report", EXAMPLES / "spy-loud.report", "--image", other)
+    assert ended.returncode == 1
+    assert ended.stderr.startswith(
+        f"tp-report: {EXAMPLES / 'spy-loud.report'}:3: a report of another image: "
+    )
+    assert f"of domain 0 (loud), and {other} comes to 'retired " in ended.stderr
+    # with a guard off it is that of the image without the guard
+    off, made = EXAMPLES / "channels" / "lines" / "flush", EXAMPLES / "channels" / "lines"
+    for secret, code in ((3, 0), (4, 1)):
+        words = (off / "secret-3.report", "--image", made / f"secret-{secret}.toml")
+        ended = run_tool("tp-report", *words)
+        assert ended.returncode == code and ("a report of another image: " in ended.stderr) == (code == 1)
+
+
+def test_a_report_in_another_order_is_of_the_image(program: object, tmp_path: Path) -> None:
+    image, report = EXAMPLES / "two-harts.toml", tmp_path / "mine.report"
+    for seed in ("1", "2", "3"):
+        ended = run_tool("tp-run", image, "--slots", "6", "--harts", seed, "--report", report)
+        assert ended.returncode == 0
+        assert run_tool("tp-report", report, "--image", image).returncode == 0
+
+
+def test_a_report_on_standard_input() -> None:
+    report = EXAMPLES / "spy-loud.report"
+    given = run_tool("tp-report", "-", given=report.read_text())
+    named = run_tool("tp-report", report)
+    assert given.returncode == 0 and given.stdout.replace("-: ", f"{report}: ", 1) == named.stdout
+
+
+def test_switches_that_used_another_time(program: object, tmp_path: Path) -> None:
+    image, report = EXAMPLES / "spy-loud.toml", tmp_path / "mine.report"
+    assert "switch 0 used 1142 " in LOUD
+    report.write_text(LOUD.replace("switch 0 used 1142 ", "switch 0 used 1141 "))
+    ended = run_tool("tp-report", report, "--image", image)
+    told = "17: a report of another image: 8 switches of entry 0 used 1141 at most, and 8 of "
+    assert (ended.returncode, ended.stderr) == (1, f"tp-report: {report}:{told}{image} 1142\n")

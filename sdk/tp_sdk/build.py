@@ -27,7 +27,7 @@ def set_words(description: Description, settings: list[str]) -> None:
     """Puts values, each as `DOMAIN.SYMBOL[+OFFSET]=VALUE`, in the place of the description's."""
     for setting in settings:
         domain, where, data = parse_setting(setting)
-        words = _domain_of(description, domain, f"--set {setting.partition('=')[0]}").words
+        words = domain_of(description, domain, f"--set {setting.partition('=')[0]}").words
         words.pop(where, None)  # (what is put last stays)
         words[where] = data
 
@@ -36,10 +36,10 @@ def set_moments(description: Description, settings: list[str]) -> None:
     """Gives domains other moments, each as `DOMAIN=[[CYCLE, LINE], ..]`."""
     for setting in settings:
         domain, moments = parse_moments(setting)
-        _domain_of(description, domain, f"--moments {domain}").moments = moments
+        domain_of(description, domain, f"--moments {domain}").moments = moments
 
 
-def _domain_of(description: Description, name: str, asked: str) -> DomainDescription:
+def domain_of(description: Description, name: str, asked: str) -> DomainDescription:
     """The domain that words of the command line name."""
     for it in description.domains:
         if it.name == name:

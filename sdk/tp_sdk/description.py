@@ -37,6 +37,10 @@ from tp_sdk.symbols import Symbols
 from tp_sdk.values import MOMENTS, bytes_of
 
 
+# What faults tell in the stead of places that the user did not write, by the places' paths.
+Told = dict[toml_places.Path, str]
+
+
 @dataclass(frozen=True)
 class Key:
     """A key of a description, and what must stand there, in words, too."""
@@ -117,10 +121,12 @@ class EntryDescription:
 
 
 class _Text:
-    """A text of TOML, to be looked into; faults tell the line and column."""
+    """A text of TOML, to be looked into; faults tell the line and column, or what is told in the place of
+    those that nobody wrote."""
 
-    def __init__(self, file: Path, text: str | None = None) -> None:
+    def __init__(self, file: Path, text: str | None = None, told: Told | None = None) -> None:
         self.file = file
+        self.told = told or {}
         try:
             read = read_text(file) if text is None else text
             self.data, self.places = toml_places.read_with_places(read)
@@ -128,6 +134,9 @@ class _Text:
             raise Fault(f"{file}: no TOML: {error}") from None
 
     def place(self, path: toml_places.Path) -> str:
+        for length in range(len(path), -1, -1):
+            if path[:length] in self.told:
+                return self.told[path[:length]]
         return self.place_of(self.places.nearest(path))
 
     def place_of_key(self, path: toml_places.Path) -> str:
@@ -148,9 +157,7 @@ class _Text:
         for name in table:
             if name not in known:
                 meant = did_you_mean(name, known) or f": {', '.join(known)}"
-                raise Fault(
-                    f"{self.place_of_key(path + (name,))}: there is no key '{name}' here{meant}"
-                )
+                raise Fault(f"{self.place_of_key(path + (name,))}: there is no key '{name}' here{meant}")
         for name, key in known.items():
             here = path + (name,)
             if name not in table:
@@ -189,10 +196,10 @@ class Description:
         return (self.machine_text if is_of_machine else self.text).place(path)
 
 
-def read_description(file: Path, given: str | None = None) -> Description:
+def read_description(file: Path, given: str | None = None, told: Told | None = None) -> Description:
     """Reads a description, from its file where no text is given; the files that it names are looked for
     beside it."""
-    text = _Text(file, given)
+    text = _Text(file, given, told)
     if "machine" in text.data:
         text.check(FRAME_KEYS, text.data, ())
         machine = _Text(text.file_at(("machine",), text.data["machine"]))
@@ -209,9 +216,9 @@ def read_description(file: Path, given: str | None = None) -> Description:
     return Description(text, text.data.get("version"), machine, keys, domains, schedule)
 
 
-def describe(programs: dict[str, Path], machine: Path, length: int, stack: int | None) -> str:
+def describe(programs: dict[str, Path], machine: Path, length: int, stack: int | None) -> tuple[str, Told]:
     """A description of programs by their domains' names, beside each other: each has as many colours as
-    the others, and a slot in turn."""
+    the others, and a slot in turn. Faults tell the options that its places are made from."""
     keys = _Text(machine)
     _check_machine(keys, ())
     colours = keys.data["l2"]["sets"] * keys.data["line"] // PAGE - 1
@@ -219,12 +226,15 @@ def describe(programs: dict[str, Path], machine: Path, length: int, stack: int |
     if each < 1:
         raise Fault(f"{machine}: it has {colours} colours for domains, too few for {len(programs)} programs")
     domains, entries = "", ""
+    told: Told = {(): "the programs"}
     for number, (name, program) in enumerate(programs.items()):
         own = [number * each + 1 + place for place in range(each)]
         domains += f"\n[[domain]]\nname = {_quoted(name)}\nprogram = {_quoted(str(program))}\n"
         domains += f"colours = {own}\n" + (f"stack = {stack}\n" if stack is not None else "")
         entries += f"\n[[schedule]]\ndomain = {_quoted(name)}\nlength = {length}\n"
-    return f"machine = {_quoted(str(machine))}\n{domains}{entries}"
+        told |= {("domain", number): f"domain '{name}'", ("domain", number, "stack"): f"--stack {stack}"}
+        told[("schedule", number)] = f"--length {length}"
+    return f"machine = {_quoted(str(machine))}\n{domains}{entries}", told
 
 
 def _quoted(text: str) -> str:

@@ -6,18 +6,18 @@ import io
 from collections.abc import Iterator
 from dataclasses import dataclass
 from pathlib import Path
+from typing import TYPE_CHECKING
 
 from tp_sdk.faults import Fault, MissingLibrary, read_bytes
 from tp_sdk.instructions import RV32I, advice, are_products, beyond, lacking
 from tp_sdk.keys import KEY_ROWS, PAGE, RIGHTS, Within
-from tp_sdk.symbols import Symbol, Symbols
+from tp_sdk.symbols import SectionPart, Symbol, Symbols
 
-try:
+# (loaded as an ELF file is: an image has none)
+if TYPE_CHECKING:
     from elftools.elf.elffile import ELFFile
-    from elftools.elf.sections import Section, SymbolTableSection
+    from elftools.elf.sections import Section
     from elftools.elf.segments import Segment as ElfSegment
-except ImportError:
-    raise MissingLibrary("pyelftools", "elftools") from None
 
 _COMPRESSED, _FLOATS = 0x1, 0x6
 _IS_LOADED, _IS_RUN = 0x2, 0x4
@@ -83,9 +83,13 @@ def load_elf(file: Path, arch: str = RV32I) -> Loaded:
     """Reads an ELF file for a machine with these instructions, with fixed addresses."""
     data = read_bytes(file)
     try:
+        from elftools.elf.elffile import ELFFile
+    except ImportError:
+        raise MissingLibrary("pyelftools", "elftools") from None
+    try:
         elf = ELFFile(io.BytesIO(data))
         _refuse_others(elf, file, arch)
-        symbols = Symbols(data, _symbols(elf))
+        symbols = Symbols(data, _symbols(elf), _sections(elf))
         _refuse_extensions(elf, file, symbols, arch)
         segments = [
             _segment(elf, number, header, file)
@@ -103,6 +107,8 @@ def load_elf(file: Path, arch: str = RV32I) -> Loaded:
 
 
 def _symbols(elf: ELFFile) -> list[Symbol]:
+    from elftools.elf.sections import SymbolTableSection
+
     return [
         Symbol(symbol.name, symbol["st_value"], symbol["st_size"], symbol["st_shndx"])
         for table in elf.iter_sections()
@@ -111,6 +117,14 @@ def _symbols(elf: ELFFile) -> list[Symbol]:
         if symbol.name
         and symbol["st_shndx"] != "SHN_UNDEF"
         and symbol["st_info"]["type"] not in ("STT_FILE", "STT_SECTION")
+    ]
+
+
+def _sections(elf: ELFFile) -> list[SectionPart]:
+    return [
+        SectionPart(number, it.name, it["sh_addr"], it["sh_addr"] + it["sh_size"])
+        for number, it in enumerate(elf.iter_sections())
+        if it["sh_flags"] & _IS_LOADED and it["sh_size"] > 0
     ]
 
 

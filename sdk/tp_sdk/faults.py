@@ -3,8 +3,10 @@
 from __future__ import annotations
 
 import os
+import signal
 import sys
 from collections.abc import Callable
+from functools import cache
 from pathlib import Path
 from typing import NoReturn
 
@@ -12,12 +14,16 @@ from tp_sdk.python import DEBIANS, use_debians
 
 INPUT_AT_FAULT = 1
 SOMETHING_IS_MISSING = 3
+INTERRUPTED = 130
+
+STANDARD = Path("-")  # the file that means standard input, or standard output
 
 EXIT_CODES = """exit codes:
   0  it did its work
   1  an input is at fault: the message says where
   2  the words are no command
-  3  something that it needs is not there: the program, a compiler, a library"""
+  3  something that it needs is not there: the program, a compiler, a library
+  130  it was interrupted"""
 
 
 class Fault(Exception):
@@ -30,6 +36,12 @@ class Missing(Fault):
     """Something that is needed is not there."""
 
     code = SOMETHING_IS_MISSING
+
+
+class Interrupted(Fault):
+    """The user wants no more of it."""
+
+    code = INTERRUPTED
 
 
 class MissingLibrary(Missing):
@@ -51,10 +63,14 @@ def run_command(name: str, command: Callable[[list[str]], int]) -> NoReturn:
         sys.stdout.flush()
         sys.exit(code)
     except MissingLibrary as missing:
-        use_debians(missing.module)
+        use_debians(missing.module, _read_already())
         fault = missing
     except Fault as it:
         fault = it
+    except KeyboardInterrupt:
+        signal.signal(signal.SIGINT, signal.SIG_IGN)
+        _write_no_more()
+        fault = Interrupted("interrupted")
     except BrokenPipeError:
         _write_no_more()
     except OSError as error:
@@ -70,8 +86,19 @@ def _write_no_more() -> None:
     os.dup2(os.open(os.devnull, os.O_WRONLY), sys.stdout.fileno())
 
 
+@cache
+def _standard_input() -> bytes:
+    return sys.stdin.buffer.read()
+
+
+def _read_already() -> bytes | None:
+    return _standard_input() if _standard_input.cache_info().currsize else None
+
+
 def read_bytes(path: Path) -> bytes:
-    """The bytes of a file."""
+    """The bytes of a file; `-` is standard input."""
+    if path == STANDARD:
+        return _standard_input()
     try:
         return path.read_bytes()
     except OSError as error:
@@ -99,7 +126,10 @@ def read_text(path: Path) -> str:
 
 
 def write_bytes(path: Path, data: bytes) -> None:
-    """Writes a file."""
+    """Writes a file; `-` is standard output."""
+    if path == STANDARD:
+        sys.stdout.buffer.write(data)
+        return
     try:
         path.write_bytes(data)
     except OSError as error:

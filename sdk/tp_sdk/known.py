@@ -5,9 +5,8 @@ from __future__ import annotations
 from dataclasses import dataclass, field
 from pathlib import Path
 
-from tp_sdk.build import load_programs
 from tp_sdk.calls import EVERY_CALL
-from tp_sdk.description import Description, read_description
+from tp_sdk.description import Description
 from tp_sdk.elf import Loaded, load_elf
 from tp_sdk.faults import Fault
 from tp_sdk.report import Report
@@ -47,10 +46,9 @@ class Known:
         return self.programs[domain] if domain < len(self.programs) else None
 
 
-def read_known(file: Path, elfs: list[str]) -> Known:
-    """What an image, or a description, says; each ELF file is `[DOMAIN=]FILE`."""
-    description = read_description(file)
-    known = known_of(description, load_programs(description))
+def known_with(description: Description, programs: list[Loaded], elfs: list[str]) -> Known:
+    """What an image, or a description, says, and ELF files, each `[DOMAIN=]FILE`, of its programs."""
+    known = known_of(description, [*programs])
     for elf in elfs:
         _put_elf(known, elf, description.arch)
     return known

@@ -5,11 +5,12 @@ from __future__ import annotations
 import os
 import shutil
 import subprocess
-from dataclasses import dataclass
+from dataclasses import dataclass, field
 from pathlib import Path
 
 from tp_sdk import library
 from tp_sdk.faults import Missing
+from tp_sdk.progress import SHOWN_FROM, Progress
 
 REPOSITORY = Path(__file__).resolve().parents[2]
 VARIABLE = "TP"
@@ -25,37 +26,64 @@ class Ended:
 
 @dataclass(frozen=True)
 class Program:
-    """The program, by its path, and the library that answers in its place, where one does."""
+    """The program, by its path; the library that answers in its place, where one does; and who is told of its runs."""
 
     path: Path
     shared: Path | None = None
+    progress: Progress = field(default_factory=Progress)
 
     @classmethod
-    def find(cls) -> Program:
+    def find(cls, progress: Progress | None = None) -> Program:
         """The program that the variable `TP` names, or the library, else the library that `make -C lib` builds,
         unless it is older than the program, else the program that `./tp --prove` builds."""
         named = os.environ.get(VARIABLE)
         path = Path(named) if named else REPOSITORY / "crates" / "tp" / "out" / "tp"
         shared = library.named_by(path) if named else library.newest(REPOSITORY, path)
         if shared:
-            return cls(path.absolute(), shared)
+            return cls(path.absolute(), shared, progress or Progress())
         if not path.is_file() or shutil.which(str(path.absolute())) is None:
             where = f"{VARIABLE}={path}" if named else str(path.relative_to(REPOSITORY))
             raise Missing(f"there is no program at {where}: './tp --prove' proves and builds it")
-        return cls(path.absolute())
+        return cls(path.absolute(), progress=progress or Progress())
+
+    @classmethod
+    def if_any(cls, progress: Progress | None = None) -> Program | None:
+        """The program, or none where it is not there."""
+        try:
+            return cls.find(progress)
+        except Missing:
+            return None
 
     def run(self, words: list[str], image: str) -> Ended:
         """Runs the program with these words on an image."""
         answered = library.answer(self.shared, words, image) if self.shared else None
         if answered:
             return Ended(*answered)
+        pipe = subprocess.PIPE
         try:
-            ended = subprocess.run(
-                [self.path, *words], input=image.encode(), capture_output=True, check=False
-            )
-            return Ended(ended.returncode, ended.stdout.decode())
+            with subprocess.Popen([self.path, *words], stdin=pipe, stdout=pipe, stderr=pipe) as process:
+                text = self._written(process, image.encode())
+            return Ended(process.returncode, text.decode())
         except (OSError, UnicodeDecodeError):
             raise self.other() from None
+
+    def _written(self, process: subprocess.Popen[bytes], image: bytes) -> bytes:
+        """What a run writes; meanwhile it is told that time passes."""
+        given: bytes | None = image
+        try:
+            while True:
+                try:
+                    text, _ = process.communicate(given, timeout=SHOWN_FROM)
+                    self.progress.end()
+                    return text
+                except subprocess.TimeoutExpired:
+                    given = None
+                    self.progress.wait()
+        # (Ctrl-C, too)
+        except BaseException:
+            process.kill()
+            process.wait()
+            raise
 
     def other(self) -> Missing:
         """What is told of a file that is another program."""

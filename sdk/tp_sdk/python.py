@@ -4,6 +4,8 @@
 import os
 import subprocess
 import sys
+import tempfile
+from typing import Optional
 
 DEBIANS = "/usr/bin/python3"
 
@@ -11,9 +13,9 @@ _HAS = """import sys, importlib.util
 sys.exit(sys.version_info < (3, 11) or importlib.util.find_spec(sys.argv[1]) is None)"""
 
 
-def use_debians(module: str) -> None:
+def use_debians(module: str, read: Optional[bytes] = None) -> None:
     """Runs the process's command from its start on with Debian's own Python, where that is another
-    one and has the module; else returns."""
+    one and has the module; else returns. What was read of standard input can be read again."""
     if sys.executable == DEBIANS:
         return
     try:
@@ -22,5 +24,12 @@ def use_debians(module: str) -> None:
         )
     except OSError:
         return
-    if has.returncode == 0:
+    if has.returncode != 0:
+        return
+    if read is None:
+        os.execv(DEBIANS, [DEBIANS, *sys.argv])
+    with tempfile.TemporaryFile() as again:
+        again.write(read)
+        again.seek(0)
+        os.dup2(again.fileno(), 0)
         os.execv(DEBIANS, [DEBIANS, *sys.argv])

@@ -76,18 +76,14 @@ _THREAD = _object(
     pc=_PLACE,
     registers={"type": "object", "additionalProperties": _INTEGER},
 )
-_REFUSED = _object(
-    code=_INTEGER, name=_TEXT, so_where=_TEXT, calls=_array(_TEXT), at=_array(_INTEGER)
-)
+_REFUSED = _object(code=_INTEGER, name=_TEXT, so_where=_TEXT, calls=_array(_TEXT), at=_array(_INTEGER))
 _DOMAIN = _object(
     number=_INTEGER,
     name=_TEXT,
     status=_STATUS,
     retired=_INTEGER,
     threads=_array(_THREAD),
-    readings=_object(
-        count=_INTEGER, last=_INTEGER_OR_NONE, kept=_array(_INTEGER), steps=_array(_INTEGER)
-    ),
+    readings=_object(count=_INTEGER, last=_INTEGER_OR_NONE, kept=_array(_INTEGER), steps=_array(_INTEGER)),
     replies=_object(
         count=_INTEGER,
         kept=_array(_object(code=_INTEGER, value=_INTEGER)),
@@ -97,6 +93,4 @@ _DOMAIN = _object(
     mem=_TEXT,
     sentences=_array(_TEXT),
 )
-_SWITCH = _object(
-    entry=_INTEGER, used=_INTEGER, pad=_INTEGER, count=_INTEGER, domain=_TEXT_OR_NONE
-)
+_SWITCH = _object(entry=_INTEGER, used=_INTEGER, pad=_INTEGER, count=_INTEGER, domain=_TEXT_OR_NONE)

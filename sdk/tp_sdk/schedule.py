@@ -56,14 +56,6 @@ def _are_on_harts(entries: Sequence[Entry]) -> bool:
     return are_there and len({(it.domain, it.hart) for it in entries}) == len(domains)
 
 
-def slot_count(word: str) -> int:
-    """A number of slots as a command's word: `ValueError` says that it is none of one or more."""
-    number = int(word)
-    if number < 1:
-        raise ValueError(word)
-    return number
-
-
 def domain_names(image: Image) -> list[str]:
     """The names of its domains."""
     domains = image.get("domain")

@@ -123,5 +123,7 @@ def _pages(segment: Segment) -> str:
 
 
 def _object(address: int, loaded: Loaded) -> str:
-    place = loaded.symbols.place(address)
-    return f" {place.name}" if place.symbol is not None else ""
+    """What stands at an address: its symbol and its section."""
+    place, section = loaded.symbols.place(address), loaded.symbols.section(address)
+    name = f" {place.name}" if place.symbol is not None else ""
+    return name + (f" ({section.name})" if section is not None else "")

@@ -24,6 +24,16 @@ class Symbol:
     section: int | str
 
 
+@dataclass(frozen=True)
+class SectionPart:
+    """A section that is loaded: its number, by which symbols name it, and its addresses."""
+
+    number: int
+    name: str
+    start: int
+    end: int
+
+
 def is_of_mapping(name: str) -> bool:
     """`$x` and `$d` are no places of a program: they say where text and data begin."""
     return name.startswith("$")
@@ -65,10 +75,11 @@ class Place:
 
 @dataclass
 class Symbols:
-    """The symbols of an ELF file, which has its bytes; none where there are none."""
+    """The symbols of an ELF file, which has its bytes, and its sections; none where there are none."""
 
     elf: bytes = b""
     symbols: list[Symbol] = field(default_factory=list)
+    sections: list[SectionPart] = field(default_factory=list)
 
     def __post_init__(self) -> None:
         self.by_name = {it.name: it for it in self.symbols if not is_of_mapping(it.name)}
@@ -91,11 +102,17 @@ class Symbols:
             return Place(address, line=line, calls=calls)
         return Place(address, symbol.name, address - symbol.address, line, calls)
 
+    def section(self, address: int) -> SectionPart | None:
+        """The section in which an address lies."""
+        return next((it for it in self.sections if it.start <= address < it.end), None)
+
     def _at(self, address: int) -> Symbol | None:
-        """The last symbol that isn't past the address, and that reaches it."""
+        """The last symbol that isn't past the address, and that reaches it: no text reaches data."""
         at = bisect.bisect_right(self._addresses, address)
+        section = self.section(address)
         for symbol in reversed(self._ascending[max(0, at - _SYMBOLS_LOOKED_AT) : at]):
-            if address < symbol.address + (symbol.size or _REACH):
+            is_there = section is None or symbol.section == section.number
+            if is_there and address < symbol.address + (symbol.size or _REACH):
                 return symbol
         return None
 

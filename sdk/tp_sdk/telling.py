@@ -23,17 +23,22 @@ _PLURALS = {"reply": "replies", "switch": "switches"}
 class Telling:
     """A report, and what is known besides it."""
 
-    def __init__(self, report: Report, file: str, known: Known) -> None:
+    def __init__(
+        self, report: Report, file: str, known: Known, slots: int | None = None, how: str = ""
+    ) -> None:
+        """Of one domain alone a report doesn't tell how many slots there were; `how` it was run is told."""
         self.report = report
         self.file = file
         self.known = known
+        self.slots = report.slots if slots is None else slots
+        self.how = how
 
     def sentences(self) -> list[str]:
         """The report in words, what belongs to a domain indented below it."""
         image = self.known.file
         of = f" of {image}" if image is not None and str(image) != self.file else ""
         off = "" if self.report.off is None else f", unprotected: the guard {self.report.off} was off"
-        lines = [f"{self.file}: {_count(self.report.slots, 'slot')}{self._on_harts()}{of}{off}"]
+        lines = [f"{self.file}: {_count(self.slots, 'slot')}{self._on_harts()}{self.how}{of}{off}"]
         for section in self.report.sections:
             lines.extend(self.domain(section).sentences())
         lines.extend(self._switch(switch) for switch in self.report.switches)
@@ -45,7 +50,7 @@ class Telling:
             "report": self.file,
             "image": None if self.known.file is None else str(self.known.file),
             "unprotected": self.report.off,
-            "slots": self.report.slots,
+            "slots": self.slots,
             "domains": [self.domain(section).fields() for section in self.report.sections],
             "switches": [self._switch_fields(switch) for switch in self.report.switches],
         }
@@ -58,7 +63,9 @@ class Telling:
     def _on_harts(self) -> str:
         """How many slots each hart had, where there are several."""
         harts = self.known.harts
-        return "" if harts == 1 else f" ({self.report.slots // harts:,} on each of {harts} harts)"
+        if harts == 1 or not self.report.switches:
+            return ""
+        return f" ({self.slots // harts:,} on each of {harts} harts)"
 
     def _switch(self, switch: Switch) -> str:
         of = self._name_of_entry(switch)

@@ -21,7 +21,7 @@ WANTED = (
 PLACE = r"([A-Za-z_.$][A-Za-z0-9_.$]*)(?:\+(0[xX][0-9A-Fa-f]{1,8}|[0-9]{1,9}))?"
 
 _FILE = "@"
-_SETTING = re.compile(rf"([a-z0-9]+)\.({PLACE})=(.*)", re.DOTALL)
+_SETTING = re.compile(rf"([^.=]+)\.({PLACE})=(.*)", re.DOTALL)
 _INTEGER = re.compile(r"0[xX][0-9A-Fa-f]{1,99}|[0-9]{1,99}")
 
 

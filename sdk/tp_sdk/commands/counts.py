@@ -3,15 +3,18 @@
 from __future__ import annotations
 
 import json
-import tomllib
-from argparse import ArgumentParser, RawDescriptionHelpFormatter
+from argparse import ArgumentParser, Namespace, RawDescriptionHelpFormatter
 from collections.abc import Sequence
 from pathlib import Path
 
 from tp_sdk.counts import Counted, count_events, counted_in
-from tp_sdk.faults import EXIT_CODES, Fault, read_text
+from tp_sdk.faults import EXIT_CODES, Fault
+from tp_sdk.images import read_image
 from tp_sdk.program import Program
-from tp_sdk.schedule import domain_names, entries_of, slot_count
+from tp_sdk.progress import Progress, progress
+from tp_sdk.refusals import Image
+from tp_sdk.schedule import domain_names, entries_of
+from tp_sdk.words import slots_from
 
 _HELP = """Counts the events of a domain's slots, by their costs:
 
@@ -52,25 +55,29 @@ def main(words: list[str]) -> int:
     parser = ArgumentParser(
         "tp-counts", description=_HELP, epilog=EXIT_CODES, formatter_class=RawDescriptionHelpFormatter
     )
-    parser.add_argument("image", type=Path, help="the image")
+    parser.add_argument("image", type=Path, help="the image, or its description")
     parser.add_argument("--domain", required=True, help="its name")
     parser.add_argument(
-        "--slots", type=slot_count, default=4, help="of its hart's first so many slots (%(default)s)"
+        "--slots", type=slots_from(1), default=4, help="of its hart's first so many slots (%(default)s)"
     )
     parser.add_argument("--json", action="store_true", help="writes an array with an object for each slot")
     asked = parser.parse_args(words)
-    try:
-        image = tomllib.loads(read_text(asked.image))
-    except tomllib.TOMLDecodeError as error:
-        raise Fault(f"{asked.image}: no TOML: {error}") from None
+    with progress("tp-counts") as shown:
+        image, counted = _counted(asked, shown)
+    table = json.dumps([vars(it) for it in counted]) if asked.json else _table(counted, counted_in(image))
+    print(table)
+    return 0
+
+
+def _counted(asked: Namespace, shown: Progress) -> tuple[Image, list[Counted]]:
+    program = Program.if_any(shown)
+    image = read_image(asked.image, program)
     entries_of(image, str(asked.image))
     names = domain_names(image)
     if asked.domain not in names:
         raise Fault(f"{asked.image}: there is no domain '{asked.domain}': {', '.join(names)}")
-    counted = count_events(Program.find(), image, str(asked.image), names.index(asked.domain), asked.slots)
-    table = json.dumps([vars(it) for it in counted]) if asked.json else _table(counted, counted_in(image))
-    print(table)
-    return 0
+    domain = names.index(asked.domain)
+    return image, count_events(program or Program.find(shown), image, str(asked.image), domain, asked.slots)
 
 
 def _table(counted: Sequence[Counted], costs: Sequence[str]) -> str:

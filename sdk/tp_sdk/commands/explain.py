@@ -10,7 +10,7 @@ from pathlib import Path
 from tp_sdk.bounds import Bound, parse_bound
 from tp_sdk.explain import explain_all
 from tp_sdk.explain_bound import BoundTold
-from tp_sdk.faults import EXIT_CODES, read_bytes, read_text
+from tp_sdk.faults import EXIT_CODES, STANDARD, read_bytes, read_text
 from tp_sdk.refusals import Refusal
 from tp_sdk.schema import image_schema
 
@@ -33,7 +33,7 @@ def main(words: list[str]) -> int:
     parser = ArgumentParser(
         "tp-explain", description=_HELP, epilog=EXIT_CODES, formatter_class=RawDescriptionHelpFormatter
     )
-    parser.add_argument("image", type=Path, nargs="?", help="the image")
+    parser.add_argument("image", type=Path, nargs="?", help="the image; -: standard input")
     parser.add_argument("refusal", nargs="?", help="what the program wrote, else read from standard input")
     parser.add_argument(
         "--json", action="store_true", help="writes an object with the place and the words, for editors"
@@ -47,6 +47,8 @@ def main(words: list[str]) -> int:
         return 0
     if asked.image is None:
         parser.error("the image is wanted")
+    if asked.image == STANDARD and asked.refusal is None:
+        parser.error("the image alone can be on standard input: what the program wrote is wanted, too")
     written = sys.stdin.read() if asked.refusal is None else asked.refusal
     bound = parse_bound(written)
     if bound is None:

@@ -10,8 +10,9 @@ from pathlib import Path
 from tp_sdk.build import build_text, set_moments, set_words
 from tp_sdk.description import read_description
 from tp_sdk.description_schema import description_schema
-from tp_sdk.faults import EXIT_CODES, Fault, Missing, write_bytes
+from tp_sdk.faults import EXIT_CODES, STANDARD, Fault, Missing, write_bytes
 from tp_sdk.program import Program
+from tp_sdk.progress import Progress, progress
 
 MOST_BYTES = 1_048_576
 
@@ -51,16 +52,21 @@ def main(words: list[str]) -> int:
     parser = ArgumentParser(
         "tp-image", description=_HELP, epilog=EXIT_CODES, formatter_class=RawDescriptionHelpFormatter
     )
-    parser.add_argument("description", type=Path, nargs="?", help="the description")
+    parser.add_argument("description", type=Path, nargs="?", help="the description; -: standard input")
     parser.add_argument(
-        "-o", dest="out", type=Path, metavar="IMAGE", help="the image's file, else standard output"
+        "-o",
+        dest="out",
+        type=Path,
+        default=STANDARD,
+        metavar="IMAGE",
+        help="the image's file, else standard output",
     )
     parser.add_argument(
         "--set",
         action="append",
         default=[],
         metavar="DOMAIN.SYMBOL[+OFFSET]=VALUE",
-        help="puts a word, [1, 2], \"text\" or @FILE at a symbol, in the place of the description's; "
+        help='puts a word, [1, 2], "text" or @FILE at a symbol, in the place of the description\'s; '
         "may stand several times",
     )
     parser.add_argument(
@@ -82,20 +88,19 @@ def main(words: list[str]) -> int:
     description = read_description(asked.description)
     set_words(description, asked.set)
     set_moments(description, asked.moments)
-    text = build_text(description, _program())
-    size = len(text.encode())
-    if size > MOST_BYTES:
-        raise Fault(f"{asked.description}: the image has {size} bytes, and {MOST_BYTES} are read at most")
-    if asked.out is None:
-        sys.stdout.write(text)
-    else:
-        write_bytes(asked.out, text.encode())
+    with progress("tp-image") as shown:
+        image = build_text(description, _program(shown)).encode()
+    if len(image) > MOST_BYTES:
+        raise Fault(
+            f"{asked.description}: the image has {len(image)} bytes, and {MOST_BYTES} are read at most"
+        )
+    write_bytes(asked.out, image)
     return 0
 
 
-def _program() -> Program | None:
+def _program(shown: Progress) -> Program | None:
     try:
-        return Program.find()
+        return Program.find(shown)
     except Missing as missing:
         print(f"tp-image: not checked: {missing}", file=sys.stderr)
         return None

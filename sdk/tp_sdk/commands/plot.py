@@ -3,30 +3,34 @@
 from __future__ import annotations
 
 import sys
-import tomllib
 from argparse import ArgumentParser, Namespace, RawDescriptionHelpFormatter
 from collections.abc import Sequence
 from dataclasses import dataclass
 from math import log2
 from pathlib import Path
+from typing import TYPE_CHECKING
 
 from tp_sdk.bounds import EntryBound, bounds_of
 from tp_sdk.faults import EXIT_CODES, Fault, Missing, read_text
+from tp_sdk.images import read_image
 from tp_sdk.information import Measured, entropy, measure
 from tp_sdk.keys import VERSION, version_of
 from tp_sdk.measurements import MEASURES, by_pads, by_schedule, measurements_of, rows_of
 from tp_sdk.memory import memory_of
-from tp_sdk.plot_matrix import Side, draw_channel
-from tp_sdk.plot_memory import draw_memory
-from tp_sdk.plot_readings import Panel, draw_histogram, draw_matrix
-from tp_sdk.plot_timeline import Strip, draw_timeline
-from tp_sdk.plots import picture_file
 from tp_sdk.program import Program
+from tp_sdk.progress import progress
 from tp_sdk.refusals import Image
 from tp_sdk.replay import Replay, replay
 from tp_sdk.report import Report, Section, parse_report
-from tp_sdk.schedule import Entry, domain_names, entries_of, slot_count, slots_of_each
-from tp_sdk.toml_places import read_with_places
+from tp_sdk.schedule import Entry, domain_names, entries_of, slots_of_each
+from tp_sdk.words import slots_from
+
+# (each picture's library is loaded as the picture is drawn: words need none)
+if TYPE_CHECKING:
+    from tp_sdk.plot_matrix import Side
+    from tp_sdk.plot_readings import Panel
+
+_SUFFIXES = (".svg", ".png")
 
 _HELP = """Draws reports of `tp run`, `tp harts` and `tp ablate`, as NAME.svg or NAME.png:
 
@@ -38,10 +42,12 @@ _HELP = """Draws reports of `tp run`, `tp harts` and `tp ablate`, as NAME.svg or
   tp-plot readings FOLDER --domain spy -o spy.svg
       what one domain measured in each FOLDER/*.report: a spy beside many neighbours, say
   tp-plot matrix FOLDER OTHER --domain spy -o spy.svg
-      what one domain measured beside each message, in FOLDER/*.report and in OTHER/*.report of the
+      what one domain measured beside each secret, in FOLDER/*.report and in OTHER/*.report of the
       same names, on one scale, with the bits that it tells: all guards on, and one off, say
   tp-plot memory mine.toml -o mine.svg
-      whose each frame and each set of the second level is, and what is shared"""
+      whose each frame and each set of the second level is, and what is shared
+
+An image may be a description, too (tp-image)."""
 
 
 def main(words: list[str]) -> int:
@@ -51,54 +57,57 @@ def main(words: list[str]) -> int:
     )
     commands = parser.add_subparsers(required=True, metavar="timeline|readings|matrix|memory")
     timeline = commands.add_parser("timeline", help="slots, what was done in them, pads and switches")
-    timeline.add_argument("image", type=Path)
-    timeline.add_argument("reports", type=Path, nargs="+", metavar="report")
-    timeline.add_argument(
-        "--slots",
-        type=slot_count,
-        default=12,
-        help="how many slots of each hart are drawn, from the first on (%(default)s)",
-    )
-    timeline.set_defaults(draw=_timeline)
     readings = commands.add_parser("readings", help="what a domain measured in many reports")
-    readings.add_argument("folder", type=Path)
-    readings.add_argument(
-        "--domain", action="append", required=True, help="its name; may stand several times"
-    )
-    readings.add_argument("--as", dest="form", choices=("matrix", "histogram"), default="matrix")
-    readings.add_argument(
-        "--image",
-        type=Path,
-        help="an image with the reports' schedule: it tells exactly within which measurements a slot ended",
-    )
-    readings.add_argument(
-        "--against",
-        metavar="REPORT",
-        help="the name of the report that others are compared with, else the first",
-    )
-    readings.set_defaults(draw=_readings)
-    matrix = commands.add_parser("matrix", help="messages by measurements, on one scale")
+    matrix = commands.add_parser("matrix", help="secrets by measurements, on one scale")
+    memory = commands.add_parser("memory", help="whose colours, frames, pages and sets are whose")
+    _add_timeline(timeline)
+    _add_readings(readings)
     matrix.add_argument("folders", type=Path, nargs="+", metavar="folder")
     matrix.add_argument("--domain", required=True, help="its name")
     matrix.set_defaults(draw=_matrix)
-    for command in (readings, matrix):
-        command.add_argument(
-            "--measure",
-            choices=MEASURES,
-            default="pairs",
-            help="; ".join(f"{name}: {what}" for name, what in MEASURES.items()),
-        )
-    memory = commands.add_parser("memory", help="whose colours, frames, pages and sets are whose")
     memory.add_argument("image", type=Path)
     memory.set_defaults(draw=_memory)
+    measures = "; ".join(f"{name}: {what}" for name, what in MEASURES.items())
+    for command in (readings, matrix):
+        command.add_argument("--measure", choices=MEASURES, default="pairs", help=measures)
     for command in (timeline, readings, matrix, memory):
         command.add_argument(
             "-o", dest="out", type=Path, required=True, metavar="PICTURE", help="NAME.svg or NAME.png"
         )
     asked = parser.parse_args(words)
-    picture_file(asked.out)
+    if asked.out.suffix not in _SUFFIXES:
+        raise Fault(f"{asked.out}: a picture is {' or '.join('NAME' + suffix for suffix in _SUFFIXES)}")
     asked.draw(asked)
     return 0
+
+
+def _add_timeline(command: ArgumentParser) -> None:
+    command.add_argument("image", type=Path)
+    command.add_argument("reports", type=Path, nargs="+", metavar="report")
+    command.add_argument(
+        "--slots",
+        type=slots_from(1),
+        default=12,
+        help="how many slots of each hart are drawn, from the first on (%(default)s)",
+    )
+    command.set_defaults(draw=_timeline)
+
+
+def _add_readings(command: ArgumentParser) -> None:
+    command.add_argument("folder", type=Path)
+    command.add_argument("--domain", action="append", required=True, help="its name; may stand several times")
+    command.add_argument("--as", dest="form", choices=("matrix", "histogram"), default="matrix")
+    command.add_argument(
+        "--image",
+        type=Path,
+        help="an image with the reports' schedule: it tells exactly within which measurements a slot ended",
+    )
+    command.add_argument(
+        "--against",
+        metavar="REPORT",
+        help="the name of the report that others are compared with, else the first",
+    )
+    command.set_defaults(draw=_readings)
 
 
 def _read(file: Path) -> Report:
@@ -123,30 +132,35 @@ class _Scheduled:
             raise Fault(f"{file}:1: pad was off: slots began at other cycles than the schedule tells")
 
 
-def _read_image(file: Path) -> _Scheduled:
-    try:
-        image, _ = read_with_places(read_text(file))
-    except tomllib.TOMLDecodeError as error:
-        raise Fault(f"{file}: no TOML: {error}") from None
+def _read_image(file: Path, program: Program | None) -> _Scheduled:
+    image = read_image(file, program)
     return _Scheduled(file, image, domain_names(image), entries_of(image, str(file)))
 
 
 def _timeline(asked: Namespace) -> None:
-    image = _read_image(asked.image)
-    reports = [(file, _read(file)) for file in asked.reports]
+    from tp_sdk.plot_timeline import Strip, draw_timeline
+
+    with progress("tp-plot") as shown:
+        try:
+            program = Program.find(shown)
+        except Missing as missing:
+            print(f"tp-plot: totals alone: {missing}", file=sys.stderr)
+            program = None
+        image = _read_image(asked.image, program)
+        strips = [
+            Strip(file.name, report, _replay(program, image, report, asked.slots))
+            for file, report in _reports_of_image(image, asked.reports)
+        ]
+    draw_timeline(asked.out, image.names, image.entries, strips, asked.slots, _bounds(image))
+
+
+def _reports_of_image(image: _Scheduled, files: Sequence[Path]) -> list[tuple[Path, Report]]:
+    reports = [(file, _read(file)) for file in files]
     for file, report in reports:
         image.refuse_others(file, report)
         if report.off is not None:
             raise Fault(f"{file}:1: {report.off} was off: a timeline is of a run with all guards on")
-    try:
-        program = Program.find()
-    except Missing as missing:
-        print(f"tp-plot: totals alone: {missing}", file=sys.stderr)
-        program = None
-    strips = [
-        Strip(file.name, report, _replay(program, image, report, asked.slots)) for file, report in reports
-    ]
-    draw_timeline(asked.out, image.names, image.entries, strips, asked.slots, _bounds(image))
+    return reports
 
 
 def _bounds(image: _Scheduled) -> list[EntryBound]:
@@ -166,13 +180,17 @@ def _replay(
 
 
 def _memory(asked: Namespace) -> None:
-    image = _read_image(asked.image)
+    from tp_sdk.plot_memory import draw_memory
+
+    image = _read_image(asked.image, Program.if_any())
     draw_memory(asked.out, image.names, memory_of(image.image, str(asked.image)))
 
 
 def _readings(asked: Namespace) -> None:
+    from tp_sdk.plot_readings import draw_histogram, draw_matrix
+
     reports = _reports_of(asked.folder)
-    image = None if asked.image is None else _read_image(asked.image)
+    image = None if asked.image is None else _read_image(asked.image, Program.if_any())
     if image is not None:
         for file, report in reports:
             image.refuse_others(file, report)
@@ -196,15 +214,17 @@ def _reports_of(folder: Path) -> list[tuple[Path, Report]]:
 
 
 def _matrix(asked: Namespace) -> None:
+    from tp_sdk.plot_matrix import draw_channel
+
     first, *others = asked.folders
     reports = {folder: _reports_of(folder) for folder in asked.folders}
-    messages = [file.stem for file, _ in reports[first]]
+    secrets = [file.stem for file, _ in reports[first]]
     for folder in others:
-        _refuse_other_names(first, messages, folder, [file.stem for file, _ in reports[folder]])
+        _refuse_other_names(first, secrets, folder, [file.stem for file, _ in reports[folder]])
     sides = {folder: _side(of, asked.domain, asked.measure) for folder, of in reports.items()}
     for folder, side in sides.items():
-        print(f"{folder}: {side.title} ({log2(len(messages)):.2f} bits would tell all {len(messages)} apart)")
-    draw_channel(asked.out, asked.domain, messages, list(sides.values()))
+        print(f"{folder}: {side.title} ({log2(len(secrets)):.2f} bits would tell all {len(secrets)} apart)")
+    draw_channel(asked.out, asked.domain, secrets, list(sides.values()))
 
 
 def _refuse_other_names(one: Path, ones: Sequence[str], other: Path, others: Sequence[str]) -> None:
@@ -215,6 +235,8 @@ def _refuse_other_names(one: Path, ones: Sequence[str], other: Path, others: Seq
 
 def _side(reports: Sequence[tuple[Path, Report]], domain: str, measure_by: str) -> Side:
     """What a domain measured in each report, all of which have the same guard off."""
+    from tp_sdk.plot_matrix import Side
+
     first, of_first = reports[0]
     for file, report in reports:
         if report.off != of_first.off:
@@ -239,6 +261,8 @@ def _section(file: Path, report: Report, domain: str) -> Section:
 def _panel(
     domain: str, reports: Sequence[tuple[Path, Report]], asked: Namespace, image: _Scheduled | None
 ) -> Panel:
+    from tp_sdk.plot_readings import Panel
+
     sections, series = [], []
     for file, report in reports:
         section = _section(file, report, domain)

@@ -1,0 +1,140 @@
+"""What a tool does while it works: Ctrl-C ends it with one line, and a terminal sees how long it takes."""
+
+from __future__ import annotations
+
+import os
+import pty
+import signal
+import subprocess
+import sys
+import time
+from collections.abc import Callable
+from pathlib import Path
+
+import pytest
+from conftest import REPOSITORY, SDK
+from test_libraries import WITHOUT
+
+EXAMPLES = REPOSITORY / "examples"
+SKELETON = EXAMPLES / "skeleton.toml"
+# The words of each tool that read a file.
+READS: dict[str, tuple[tuple[str, ...], tuple[str, ...]]] = {
+    "tp-counts": ((), ("--domain", "red")),
+    "tp-explain": ((), ("refused K4 at 0 found 63 wanted 64",)),
+    "tp-image": ((), ()),
+    "tp-plot": (("memory",), ("-o", "a.svg")),
+    "tp-report": ((), ()),
+    "tp-run": ((), ("--slots", "1")),
+}
+# A program that writes its process's number, and takes its time.
+SLOW = """#!/bin/sh
+cat > /dev/null
+echo $$ > "{told}"
+exec sleep {seconds}
+"""
+ACCEPTS = """#!/bin/sh
+cat > /dev/null
+sleep {seconds}
+echo accepted
+"""
+
+
+MOST_SECONDS = 60
+
+
+def script(file: Path, text: str) -> Path:
+    file.write_text(text)
+    file.chmod(0o755)
+    return file
+
+
+def wait_for(what: Callable[[], bool], process: subprocess.Popen[str]) -> None:
+    """Until it is so, while the process runs."""
+    end = time.monotonic() + MOST_SECONDS
+    while not what():
+        assert process.poll() is None and time.monotonic() < end
+        time.sleep(0.02)
+
+
+def is_read(pipe: Path, ends: list[int]) -> bool:
+    """Somebody reads from a pipe, which then is open for writing, too."""
+    try:
+        ends.append(os.open(pipe, os.O_WRONLY | os.O_NONBLOCK))
+    except OSError:
+        return False
+    return True
+
+
+@pytest.mark.parametrize("tool", READS)
+def test_an_interrupt_is_one_line(tool: str, tmp_path: Path) -> None:
+    before, after = READS[tool]
+    pipe = tmp_path / "pipe.toml"
+    os.mkfifo(pipe)
+    command = [sys.executable, SDK / tool, *before, pipe, *after]
+    tp = script(tmp_path / "tp", ACCEPTS.format(seconds=0))
+    out = subprocess.PIPE
+    ends: list[int] = []
+    with subprocess.Popen(
+        command, cwd=tmp_path, env=os.environ | {"TP": str(tp)}, stdout=out, stderr=out, text=True
+    ) as it:
+        wait_for(lambda: is_read(pipe, ends), it)
+        it.send_signal(signal.SIGINT)
+        written, said = it.communicate(timeout=MOST_SECONDS)
+    os.close(ends[0])
+    assert (it.returncode, written, said) == (130, "", f"{tool}: interrupted\n")
+
+
+@pytest.mark.parametrize("words", (("tp-run", SKELETON, "--slots", "1"), ("tp-image", SKELETON)))
+def test_an_interrupt_ends_the_program_too(words: tuple[str, ...], tmp_path: Path) -> None:
+    told = tmp_path / "told"
+    slow = script(tmp_path / "tp", SLOW.format(told=told, seconds=MOST_SECONDS))
+    command = [sys.executable, SDK / words[0], *words[1:]]
+    environment = os.environ | {"TP": str(slow)}
+    with subprocess.Popen(command, env=environment, stderr=subprocess.PIPE, text=True) as it:
+        wait_for(lambda: told.exists() and told.read_text().endswith("\n"), it)
+        it.send_signal(signal.SIGINT)
+        _, said = it.communicate(timeout=MOST_SECONDS)
+    assert (it.returncode, said) == (130, f"{words[0]}: interrupted\n")
+    with pytest.raises(ProcessLookupError):
+        os.kill(int(told.read_text()), 0)
+
+
+def said_to_a_terminal(command: list[str | Path], tp: Path) -> tuple[int, str]:
+    """A command's exit code, and what it says on a terminal."""
+    ours, its = pty.openpty()
+    environment = os.environ | {"TP": str(tp)}
+    with subprocess.Popen(command, env=environment, stdout=subprocess.DEVNULL, stderr=its) as it:
+        os.close(its)
+        said = b""
+        while True:
+            try:
+                part = os.read(ours, 4096)
+            # (its end is closed)
+            except OSError:
+                part = b""
+            if not part:
+                break
+            said += part
+    os.close(ours)
+    return it.returncode, said.decode()
+
+
+def test_a_terminal_sees_how_long_it_takes(tmp_path: Path) -> None:
+    pytest.importorskip("tqdm")
+    slow = script(tmp_path / "tp", ACCEPTS.format(seconds=1.3))
+    command: list[str | Path] = [sys.executable, SDK / "tp-image", SKELETON]
+    code, said = said_to_a_terminal(command, slow)
+    assert code == 0 and "tp-image: 0 runs of tp ended, 00:01" in said
+    # (and the line is cleared)
+    assert said.rstrip("\r\n").endswith("\r") or said.endswith("\r")
+    quick = script(tmp_path / "tp", ACCEPTS.format(seconds=0))
+    assert said_to_a_terminal(command, quick) == (0, "")
+
+
+def test_what_is_no_terminal_sees_nothing_nor_does_one_without_the_library(tmp_path: Path) -> None:
+    slow = script(tmp_path / "tp", ACCEPTS.format(seconds=1.3))
+    command: list[str | Path] = [sys.executable, SDK / "tp-image", SKELETON]
+    ended = subprocess.run(command, env=os.environ | {"TP": str(slow)}, capture_output=True, check=False)
+    assert (ended.returncode, ended.stderr) == (0, b"")
+    without: list[str | Path] = [sys.executable, WITHOUT, "tqdm", SDK / "tp-image", SKELETON]
+    assert said_to_a_terminal(without, slow) == (0, "")

@@ -1,0 +1,41 @@
+"""The image that a file is, or that it describes, as values."""
+
+from __future__ import annotations
+
+import tomllib
+from pathlib import Path
+
+from tp_sdk.build import build_text
+from tp_sdk.description import read_description
+from tp_sdk.faults import Fault, read_text
+from tp_sdk.program import Program
+from tp_sdk.refusals import Image
+from tp_sdk.toml_places import read_with_places
+
+
+def read_image(file: Path, program: Program | None) -> Image:
+    """An image's values; of a description those of the image that it makes, whose pads the program tells
+    where they are left out."""
+    text = read_text(file)
+    try:
+        image, _ = read_with_places(text)
+    except tomllib.TOMLDecodeError as error:
+        raise Fault(f"{file}: no TOML: {error}") from None
+    if not _is_described(image):
+        return image
+    return tomllib.loads(build_text(read_description(file, text), program))
+
+
+def _is_described(image: Image) -> bool:
+    """Something in it stands for what an image has there."""
+    domains, entries = (_tables(image, key) for key in ("domain", "schedule"))
+    return (
+        "machine" in image
+        or any("program" in domain for domain in domains)
+        or any("pad" not in entry or isinstance(entry.get("domain"), str) for entry in entries)
+    )
+
+
+def _tables(image: Image, key: str) -> list[Image]:
+    tables = image.get(key)
+    return [it for it in tables if isinstance(it, dict)] if isinstance(tables, list) else []
