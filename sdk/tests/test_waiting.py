@@ -52,8 +52,18 @@ def wait_for(what: Callable[[], bool], process: subprocess.Popen[str]) -> None:
     """Until it is so, while the process runs."""
     end = time.monotonic() + MOST_SECONDS
     while not what():
-        assert process.poll() is None and time.monotonic() < end
+        if process.poll() is not None or time.monotonic() > end:
+            process.kill()
+            pytest.fail(f"{process.args} did not wait")
         time.sleep(0.02)
+
+
+def ended(process: subprocess.Popen[str]) -> tuple[str, str]:
+    """What a process has written and said, once it is over."""
+    try:
+        return process.communicate(timeout=MOST_SECONDS)
+    finally:
+        process.kill()
 
 
 def is_read(pipe: Path, ends: list[int]) -> bool:
@@ -79,8 +89,9 @@ def test_an_interrupt_is_one_line(tool: str, tmp_path: Path) -> None:
     ) as it:
         wait_for(lambda: is_read(pipe, ends), it)
         it.send_signal(signal.SIGINT)
-        written, said = it.communicate(timeout=MOST_SECONDS)
-    os.close(ends[0])
+        # (an interrupt right before it waits for bytes is told of once these have an end)
+        os.close(ends[0])
+        written, said = ended(it)
     assert (it.returncode, written, said) == (130, "", f"{tool}: interrupted\n")
 
 
@@ -93,7 +104,7 @@ def test_an_interrupt_ends_the_program_too(words: tuple[str, ...], tmp_path: Pat
     with subprocess.Popen(command, env=environment, stderr=subprocess.PIPE, text=True) as it:
         wait_for(lambda: told.exists() and told.read_text().endswith("\n"), it)
         it.send_signal(signal.SIGINT)
-        _, said = it.communicate(timeout=MOST_SECONDS)
+        _, said = ended(it)
     assert (it.returncode, said) == (130, f"{words[0]}: interrupted\n")
     with pytest.raises(ProcessLookupError):
         os.kill(int(told.read_text()), 0)
@@ -134,7 +145,7 @@ def test_a_terminal_sees_how_long_it_takes(tmp_path: Path) -> None:
 def test_what_is_no_terminal_sees_nothing_nor_does_one_without_the_library(tmp_path: Path) -> None:
     slow = script(tmp_path / "tp", ACCEPTS.format(seconds=1.3))
     command: list[str | Path] = [sys.executable, SDK / "tp-image", SKELETON]
-    ended = subprocess.run(command, env=os.environ | {"TP": str(slow)}, capture_output=True, check=False)
-    assert (ended.returncode, ended.stderr) == (0, b"")
+    quiet = subprocess.run(command, env=os.environ | {"TP": str(slow)}, capture_output=True, check=False)
+    assert (quiet.returncode, quiet.stderr) == (0, b"")
     without: list[str | Path] = [sys.executable, WITHOUT, "tqdm", SDK / "tp-image", SKELETON]
     assert said_to_a_terminal(without, slow) == (0, "")
