@@ -53,6 +53,15 @@ def bare_python(library: str, folder: Path) -> Path:
     return bare
 
 
+def stored_picture(name: str) -> str:
+    """A picture of the documents, where the library that is there draws the same bytes."""
+    matplotlib = pytest.importorskip("matplotlib")
+    text = (REPOSITORY / "docs" / "pictures" / f"{name}.svg").read_text()
+    if f"Matplotlib v{matplotlib.__version__}," not in text:
+        pytest.skip(f"the pictures are of another version than Matplotlib v{matplotlib.__version__}")
+    return text
+
+
 @pytest.fixture(scope="session")
 def program() -> Program:
     """The program."""

@@ -178,8 +178,10 @@ def test_a_timeline_of_a_report_alone(tmp_path: Path, monkeypatch: pytest.Monkey
         assert ended.stderr.startswith("tp-plot: totals alone: there is no program at TP=")
     text = pictures[0].read_text()
     assert text.startswith("<?xml") and text == pictures[1].read_text()
-    assert text.count("of each switch the most that its entry") == 2
-    assert "16,603 instructions" in text and "1 call, 0 readings" in text
+    # (two rows of slots for each report)
+    assert text.count(": slots 1 to 6 of 16 (of each switch the most that its entry") == 2
+    assert text.count(": slots 7 to 12 of 16 (of each switch the most that its entry") == 2
+    assert "16,603 instructions" in text and "1 call and 0 readings in all 16 slots" in text
 
 
 def test_a_timeline_of_the_second_version(tmp_path: Path, monkeypatch: pytest.MonkeyPatch) -> None:

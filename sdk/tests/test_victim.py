@@ -6,7 +6,7 @@ import tomllib
 from pathlib import Path
 
 import pytest
-from conftest import REPOSITORY, run_tool
+from conftest import REPOSITORY, run_tool, stored_picture
 
 from tp_sdk.program import Program
 from tp_sdk.report import parse_report
@@ -50,7 +50,7 @@ def test_the_first_look_up_of_a_line_is_the_one_that_takes_long(beside: Path) ->
         assert [it > 40 for it in cycles] == is_new
 
 
-def test_the_spys_picture_is_one_row(beside: Path, tmp_path: Path) -> None:
+def test_the_spys_picture_is_one_row(beside: Path, compiler: str, tmp_path: Path) -> None:
     pytest.importorskip("matplotlib")
     picture = tmp_path / "victim.svg"
     words = ("readings", beside, "--domain", "victim", "--domain", "spy", "-o", picture)
@@ -61,3 +61,6 @@ def test_the_spys_picture_is_one_row(beside: Path, tmp_path: Path) -> None:
     text = picture.read_text()
     assert "00000000 and 5 more" in text and "one row for all 6 reports: every difference is 0" in text
     assert picture.stat().st_size < 60_000
+    # it is the one of the documents, to the byte
+    if compiler == (Path(__file__).parent / "reports" / "compiler").read_text().strip():
+        assert text == stored_picture("victim")

@@ -1,32 +1,36 @@
-"""The picture of a channel: a row for each message, a column for each measurement of a spy, beside each
+"""The picture of a channel: a row for each secret, a column for each measurement of a spy, beside each
 other with all guards on and with one off."""
 
 from __future__ import annotations
 
-from collections.abc import Sequence
+from collections.abc import Callable, Sequence
 from dataclasses import dataclass
 from pathlib import Path
 from typing import TYPE_CHECKING, Any
 
-from tp_sdk.plot_readings import difference_colours, far, near
-from tp_sdk.plots import PLAIN, SMALL, is_wide, pyplot, save
+from tp_sdk.plots import PLAIN, SMALL, WIDTH, Colour, ink, is_dark, paper, pyplot, save, short, title
 
 # (after that one, which tells where the library is missing)
 import numpy
-from matplotlib.colors import Normalize
+from matplotlib.colors import LinearSegmentedColormap, to_hex
 from matplotlib.ticker import FuncFormatter, MaxNLocator
 
 if TYPE_CHECKING:
     from matplotlib.axes import Axes
 
-_MOST_NUMBERS = 12  # columns in which there is room for the cycles
-_DARK = 0.6  # from there on, on the scale, what is written is white
+_BESIDE = 3  # so many sides at most, and the others below them
+_LABELS, _BAR, _GAP = 0.7, 0.9, 0.1  # inches: of the secrets' names, of the scale, between sides
+_LEAST_CELL = 0.03  # inches: three pixels
+_DIGIT = 0.072  # inches, in the smallest type
+_TICKS = 8  # of the scale
+# (after the paper's own, on white and on dark)
+_ON_WHITE, _ON_DARK = ("#d6e6f4", "#7fb2d9", "#2f6fad"), ("#1f3a55", "#3f78ab", "#a5cdee")
 
 
 @dataclass(frozen=True)
 class Side:
-    """The measurements beside each message, all with the same guard off, or with none, and how many
-    bits of the message the readings tell that they are made of."""
+    """The measurements beside each secret, all with the same guard off, or with none, and how many
+    bits of the secret the readings tell that they are made of."""
 
     off: str | None
     rows: Sequence[tuple[int, ...]]
@@ -40,81 +44,122 @@ class Side:
 
     @property
     def width(self) -> int:
-        """The most measurements beside a message."""
+        """The most measurements beside a secret."""
         return max(map(len, self.rows))
 
-    def differences(self) -> list[list[int]]:
-        """By how many cycles each measurement is more than the least of its column."""
-        least = [min(row[place] for row in self.rows if place < len(row)) for place in range(self.width)]
-        return [[cycles - low for cycles, low in zip(row, least)] for row in self.rows]
+    def tells(self, columns: Sequence[int]) -> bool:
+        """One of these measurements is not the same beside each secret."""
+        return len({tuple(row[it] for it in columns if it < len(row)) for row in self.rows}) > 1
 
 
-class _Scale:
-    """The one scale of all sides: logarithmic where it is wide; no difference alone is white."""
+@dataclass(frozen=True)
+class Columns:
+    """The measurements of each column of a picture, and what is said of those that are not as measured."""
 
-    def __init__(self, differences: Sequence[int]) -> None:
-        seen = [it for it in differences if it] or [1]
-        self.is_wide = is_wide(seen)
-        self.most = self.place(max(seen))
-        self.colours = difference_colours(self.most)
-
-    def place(self, difference: int) -> float:
-        """Where a difference stands."""
-        return far(difference) if self.is_wide else float(difference)
-
-    def tell(self, place: float) -> str:
-        """What is told of a place."""
-        return near(place) if self.is_wide else f"{place:+,.0f}" if place else "0"
+    groups: Sequence[Sequence[int]]
+    told: str
 
 
-def draw_channel(file: Path, domain: str, messages: Sequence[str], sides: Sequence[Side]) -> None:
-    """Draws the sides on one scale."""
-    scale = _Scale([it for side in sides for row in side.differences() for it in row])
-    width = sum(0.9 + 0.42 * max(side.width, 5) for side in sides)
-    figure = pyplot.figure(figsize=(width + 1.6, 1.3 + 0.24 * len(messages)), layout="constrained")
+def columns_of(sides: Sequence[Side], most: int) -> Columns:
+    """A column for each measurement, where there are so many at most; else for each that tells on some
+    side; and where those are too many, too, several in one."""
+    width = max(1, *(side.width for side in sides))
+    every = range(width)
+    if width <= most:
+        return Columns([[it] for it in every], "")
+    telling = [it for it in every if any(side.tells([it]) for side in sides)] or [0]
+    each = -(-len(telling) // most)
+    groups = [telling[at : at + each] for at in range(0, len(telling), each)]
+    told = f"; of {width} measurements the {len(telling)} that differ on a side"
+    return Columns(groups, told if each == 1 else f"{told}, the sum of {each} in a column")
+
+
+def draw_channel(file: Path, domain: str, secrets: Sequence[str], sides: Sequence[Side]) -> None:
+    """Draws the sides on one scale, on which each number has its colour."""
+    beside = min(len(sides), _BESIDE)
+    room = (WIDTH - _LABELS - _BAR) / beside - _GAP
+    columns = columns_of(sides, int(room / _LEAST_CELL))
+    numbers = sorted({it for side in sides for row in _sums(side, columns) for it in row if it is not None})
+    below = -(-len(sides) // beside)
+    height = 0.45 + below * (0.6 + 0.22 * max(len(secrets), 4))
+    figure = pyplot.figure(figsize=(WIDTH, height), layout="constrained")
     figure.suptitle(
-        f"what {domain} measured beside each of {len(messages)} messages: cycles, "
-        "and as a colour how many more than the least of the column",
+        title(f"cycles that {domain} measured beside each of {len(secrets)} secrets{columns.told}"),
         x=0.01,
         ha="left",
         fontsize=PLAIN,
     )
-    all_axes = figure.subplots(1, len(sides), sharey=True, squeeze=False)[0]
+    grid = figure.subplots(below, beside, sharey=True, squeeze=False)
+    all_axes = list(grid.flat)
+    for axes in all_axes[len(sides) :]:
+        axes.set_axis_off()
     for axes, side in zip(all_axes, sides):
-        shown = _draw(axes, side, scale)
-    all_axes[0].set_yticks(range(len(messages)), messages, fontsize=SMALL)
-    bar = figure.colorbar(shown, ax=list(all_axes), pad=0.01, aspect=12)
-    bar.ax.set_ylim(0, scale.most)
-    bar.locator = MaxNLocator(integer=True, nbins=5)
-    bar.formatter = FuncFormatter(lambda place, _: scale.tell(place))
-    bar.update_ticks()
-    bar.ax.tick_params(labelsize=SMALL)
+        shown = _draw(axes, side, columns, numbers, room)
+    grid[0, 0].set_yticks(range(len(secrets)), [short(it) for it in secrets])
+    _draw_scale(figure, all_axes, shown, numbers)
     save(figure, file)
 
 
-def _draw(axes: Axes, side: Side, scale: _Scale) -> Any:
-    cells = numpy.full((len(side.rows), max(side.width, 1)), numpy.nan)
-    for number, (row, differences) in enumerate(zip(side.rows, side.differences())):
-        for place, (cycles, difference) in enumerate(zip(row, differences)):
-            cells[number, place] = scale.place(difference)
-            if side.width <= _MOST_NUMBERS:
-                is_dark = cells[number, place] > _DARK * scale.most
-                axes.text(
-                    place,
-                    number,
-                    f"{cycles}",
-                    ha="center",
-                    va="center",
-                    fontsize=SMALL,
-                    color="white" if is_dark else "black",
-                )
+def _sums(side: Side, columns: Columns) -> list[list[int | None]]:
+    """The cycles of each cell; none where a row has no measurement."""
+    rows = []
+    for row in side.rows:
+        cells = ([row[it] for it in group if it < len(row)] for group in columns.groups)
+        rows.append([sum(cell) if cell else None for cell in cells])
+    return rows
+
+
+def _draw(axes: Axes, side: Side, columns: Columns, numbers: Sequence[int], room: float) -> Any:
+    rows = _sums(side, columns)
+    places = {number: place for place, number in enumerate(numbers)}
+    cells = numpy.array([[numpy.nan if it is None else places[it] for it in row] for row in rows])
+    colours = _colours(len(numbers))
+    if numbers and len(str(numbers[-1])) * _DIGIT < room / len(columns.groups):
+        _write(axes, rows, lambda cycles: str(to_hex(colours(places[cycles]))))
+    telling = [place for place, group in enumerate(columns.groups) if side.tells(group)]
+    _mark(axes, telling)
     axes.set_title(side.title, fontsize=PLAIN)
-    axes.xaxis.set_major_locator(MaxNLocator(integer=True))
-    axes.set_xlabel("measurement")
+    axes.xaxis.set_major_locator(MaxNLocator(nbins=10, integer=True))
+    axes.xaxis.set_major_formatter(FuncFormatter(lambda place, _: _name(columns, place)))
+    axes.set_xlabel("measurement" + (" (a bar above: it differs)" if telling else ""))
+    most = max(len(numbers) - 1, 1)
     return axes.imshow(
-        cells,
-        aspect="auto",
-        interpolation="nearest",
-        cmap=scale.colours,
-        norm=Normalize(-scale.most, scale.most),
+        cells, aspect="auto", interpolation="nearest", cmap=colours, vmin=-0.5, vmax=most + 0.5
     )
+
+
+def _write(axes: Axes, rows: Sequence[Sequence[int | None]], colour: Callable[[int], Colour]) -> None:
+    """The cycles in their cells."""
+    for number, row in enumerate(rows):
+        for place, cycles in enumerate(row):
+            if cycles is not None:
+                of_text = "white" if is_dark(colour(cycles)) else "black"
+                axes.text(place, number, f"{cycles}", ha="center", va="center", fontsize=SMALL, color=of_text)
+
+
+def _mark(axes: Axes, places: Sequence[int]) -> None:
+    """A bar above each of these columns."""
+    for place in places:
+        ends = [place - 0.4, place + 0.4]
+        axes.plot(ends, [-0.5, -0.5], color=ink(), linewidth=4, clip_on=False, solid_capstyle="butt")
+
+
+def _name(columns: Columns, place: float) -> str:
+    """The first measurement of a column."""
+    is_column = place == int(place) and 0 <= place < len(columns.groups)
+    return str(columns.groups[int(place)][0]) if is_column else ""
+
+
+def _colours(count: int) -> LinearSegmentedColormap:
+    """A colour for each number, from the least on: that has the paper's."""
+    colours = (paper(), *(_ON_DARK if is_dark(paper()) else _ON_WHITE))
+    return LinearSegmentedColormap.from_list("cycles", colours, N=max(count, 2))
+
+
+def _draw_scale(figure: Any, all_axes: Sequence[Axes], shown: Any, numbers: Sequence[int]) -> None:
+    count = max(len(numbers), 1)
+    ticks = sorted({round(it) for it in numpy.linspace(0, count - 1, min(count, _TICKS))})
+    bar = figure.colorbar(shown, ax=list(all_axes), pad=0.01, aspect=16, ticks=ticks)
+    bar.ax.set_ylim(-0.5, count - 0.5)
+    bar.ax.set_yticklabels([f"{numbers[it]:,}" if numbers else "" for it in ticks])
+    bar.set_label("cycles: a step for each number", fontsize=SMALL)

@@ -9,7 +9,21 @@ from pathlib import Path
 from typing import TYPE_CHECKING, Any
 
 from tp_sdk.measurements import Measurements, Row
-from tp_sdk.plots import PLAIN, SMALL, colour_of, is_wide, pyplot, save, tell_cycles
+from tp_sdk.plots import (
+    PLAIN,
+    SMALL,
+    WIDTH,
+    colour_of,
+    grey,
+    is_dark,
+    is_wide,
+    paper,
+    pyplot,
+    save,
+    short,
+    tell_cycles,
+    title,
+)
 
 # (after that one, which tells where the library is missing)
 import numpy
@@ -19,9 +33,9 @@ from matplotlib.ticker import FuncFormatter, MaxNLocator
 
 if TYPE_CHECKING:
     from matplotlib.axes import Axes
-    from matplotlib.figure import SubFigure
+    from matplotlib.figure import Figure
 
-_OVER_END, _ALONE = "0.72", "0.92"
+_OVER_END, _ALONE = 0.28, 0.08  # of the texts' colour
 _NONE = "no readings to draw"
 _BINS = 120
 
@@ -58,30 +72,44 @@ class Panel:
 
 
 def draw_matrix(file: Path, panels: Sequence[Panel]) -> None:
-    """For each domain two pictures beside each other: a row for each report, a column for each
-    measurement, its cycles as a colour; and what they differ by from one report's."""
-    heights = [1.3 + 0.27 * max(len(panel.rows), 2) for panel in panels]
-    *parts, last = _parts(15, [*heights, 0.3])
-    for part, panel in zip(parts, panels):
-        part.suptitle(panel.verdict, x=0.01, ha="left", fontsize=PLAIN)
-        raw, differences = part.subplots(1, 2, sharey=True)
-        _draw_cycles(part, raw, panel)
-        _draw_differences(part, differences, panel)
+    """For each domain a row for each report, a column for each measurement, its cycles as a colour; and
+    below that, where reports differ, by what they do from one report's."""
+    rows = [0.24 * max(len(panel.rows), 2) for panel in panels for _ in range(_pictures(panel))]
+    figure, (*places, last) = _places([*rows, 0.3], len(panels))
+    for panel in panels:
+        axes = places.pop(0)
+        axes.set_title(title(panel.verdict), loc="left", fontsize=PLAIN)
+        _draw_cycles(figure, axes, panel)
+        if _pictures(panel) > 1:
+            _draw_differences(figure, places.pop(0), panel)
+    last.set_axis_off()
     last.legend(
         handles=[
-            Patch(facecolor=_OVER_END, label="a slot ended within it: left out of the scale"),
-            Patch(facecolor="white", edgecolor="0.6", label="left: no measurement; right: no difference"),
-            Patch(facecolor=_ALONE, label="right: one of the two has none, or a slot ended within one alone"),
+            Patch(facecolor=grey(_OVER_END), label="a slot ended within it: left out of the scale"),
+            Patch(
+                facecolor=paper(),
+                edgecolor=grey(0.4),
+                label="of cycles: no measurement; of differences: none",
+            ),
+            Patch(
+                facecolor=grey(_ALONE),
+                label="of differences: one of the two has no measurement, or a slot ended within one alone",
+            ),
         ],
-        loc="center left",
-        ncols=3,
-        fontsize=SMALL,
+        loc="lower right",
+        ncols=2,
         frameon=False,
+        borderaxespad=0,
     )
-    save(last.figure, file)
+    save(figure, file)
 
 
-def _draw_cycles(figure: SubFigure, axes: Axes, panel: Panel) -> None:
+def _pictures(panel: Panel) -> int:
+    """How many a panel has."""
+    return 1 if len(panel.rows) == 1 else 2
+
+
+def _draw_cycles(figure: Figure, axes: Axes, panel: Panel) -> None:
     cells = _blank(panel)
     is_over = _blank(panel)
     for number, row in enumerate(panel.rows):
@@ -92,23 +120,23 @@ def _draw_cycles(figure: SubFigure, axes: Axes, panel: Panel) -> None:
                 cells[number, place] = cycles
     within = panel.within_slots()
     shown = _show(axes, cells, cmap="viridis", norm=LogNorm() if within and is_wide(within) else None)
-    _show(axes, is_over, cmap=ListedColormap([_OVER_END]))
+    _show(axes, is_over, cmap=ListedColormap([grey(_OVER_END)]))
     if within:
-        bar = figure.colorbar(shown, ax=axes, pad=0.02, aspect=12)
-        bar.ax.tick_params(labelsize=SMALL)
+        bar = figure.colorbar(shown, ax=axes, pad=0.02, aspect=8)
         if is_wide(within):
             tell_cycles(bar.ax.yaxis)
         else:
-            bar.locator = MaxNLocator(integer=True, nbins=5)
+            bar.locator = MaxNLocator(integer=True, nbins=4)
             bar.update_ticks()
-    axes.set_yticks(range(len(panel.rows)), [_name(row) for row in panel.rows], fontsize=SMALL)
+        bar.set_label("logarithmic" if is_wide(within) else "linear", fontsize=SMALL)
+    _name_rows(axes, panel)
     for number, row in enumerate(panel.rows):
         if not row.measurements.cycles:
             _say(axes, number, _NONE)
-    axes.set_xlabel(f"{panel.domain}: cycles of each measurement{_left_out(panel)}")
+    axes.set_xlabel(f"{panel.domain}: cycles of each measurement{_one_row(panel)}{_left_out(panel)}")
 
 
-def _draw_differences(figure: SubFigure, axes: Axes, panel: Panel) -> None:
+def _draw_differences(figure: Figure, axes: Axes, panel: Panel) -> None:
     first = panel.compared.measurements
     cells, alone = _blank(panel), _blank(panel)
     most = 1.0
@@ -122,16 +150,13 @@ def _draw_differences(figure: SubFigure, axes: Axes, panel: Panel) -> None:
             if not first.is_over_end[place]:
                 most = max(most, abs(far(difference)))
     shown = _show(axes, cells, cmap=difference_colours(most), norm=Normalize(-most, most))
-    _show(axes, alone, cmap=ListedColormap([_ALONE]))
-    if len(panel.rows) == 1:
-        _say(axes, 0, f"one row for all {panel.reports} reports: every difference is 0")
-    else:
-        powers = range(1, int(most) + 1)
-        ticks = [*(-power for power in reversed(powers)), 0, *powers]
-        bar = figure.colorbar(shown, ax=axes, pad=0.02, aspect=12, ticks=ticks)
-        bar.ax.yaxis.set_major_formatter(FuncFormatter(lambda place, _: near(place)))
-        bar.ax.tick_params(labelsize=SMALL)
-    axes.tick_params(labelleft=False)
+    _show(axes, alone, cmap=ListedColormap([grey(_ALONE)]))
+    powers = range(1, int(most) + 1)
+    ticks = [*(-power for power in reversed(powers)), 0, *powers]
+    bar = figure.colorbar(shown, ax=axes, pad=0.02, aspect=8, ticks=ticks)
+    bar.ax.yaxis.set_major_formatter(FuncFormatter(lambda place, _: near(place)))
+    bar.set_label("logarithmic", fontsize=SMALL)
+    _name_rows(axes, panel)
     axes.set_xlabel(f"{panel.domain}: cycles more than in {panel.against or panel.compared.reports[0]}")
 
 
@@ -146,17 +171,20 @@ def _difference(own: Measurements, first: Measurements, place: int) -> int | Non
 
 
 def difference_colours(most: float) -> LinearSegmentedColormap:
-    """White for no difference alone: the next one, of one cycle, has a colour that is seen."""
-    white = 0.25 / most
+    """The paper's for no difference alone: the next one, of one cycle, has a colour that is seen."""
+    none = 0.25 / most
+    fewer, more = ("#08306b", "#7db8da"), ("#f6a178", "#7f0000")
+    if is_dark(paper()):
+        fewer, more = ("#a9d6f5", "#1f5f99"), ("#8f3a2a", "#ffc9a8")
     return LinearSegmentedColormap.from_list(
         "differences",
         [
-            (0, "#08306b"),
-            (0.5 - white, "#7db8da"),
-            (0.5 - white, "white"),
-            (0.5 + white, "white"),
-            (0.5 + white, "#f6a178"),
-            (1, "#7f0000"),
+            (0, fewer[0]),
+            (0.5 - none, fewer[1]),
+            (0.5 - none, paper()),
+            (0.5 + none, paper()),
+            (0.5 + none, more[0]),
+            (1, more[1]),
         ],
         N=1024,
     )
@@ -187,9 +215,20 @@ def _say(axes: Axes, row: int, what: str) -> None:
     axes.text(0.5, row, what, transform=axes.get_yaxis_transform(), ha="center", va="center", fontsize=PLAIN)
 
 
+def _name_rows(axes: Axes, panel: Panel) -> None:
+    axes.set_yticks(range(len(panel.rows)), [_name(row) for row in panel.rows])
+
+
 def _name(row: Row) -> str:
-    others = len(row.reports) - 1
-    return row.reports[0] if not others else f"{row.reports[0]} and {others} more"
+    name, others = short(row.reports[0]), len(row.reports) - 1
+    return name if not others else f"{name} and {others} more"
+
+
+def _one_row(panel: Panel) -> str:
+    """What a picture of differences would tell."""
+    if len(panel.rows) > 1:
+        return ""
+    return f"; one row for all {panel.reports} reports: every difference is 0"
 
 
 def _left_out(panel: Panel) -> str:
@@ -200,18 +239,19 @@ def _left_out(panel: Panel) -> str:
 
 def draw_histogram(file: Path, panels: Sequence[Panel]) -> None:
     """How often so many cycles were measured, a strip for each report."""
-    heights = [1.1 + 0.45 * len(panel.rows) for panel in panels]
-    parts = _parts(11, heights)
-    for part, panel in zip(parts, panels):
-        part.suptitle(panel.verdict, x=0.01, ha="left", fontsize=PLAIN)
-        _draw_counts(part.subplots(), panel)
-    save(parts[0].figure, file)
+    figure, places = _places([0.4 * len(panel.rows) for panel in panels], len(panels))
+    for axes, panel in zip(places, panels):
+        axes.set_title(title(panel.verdict), loc="left", fontsize=PLAIN)
+        _draw_counts(axes, panel)
+    save(figure, file)
 
 
-def _parts(width: float, heights: Sequence[float]) -> list[SubFigure]:
-    """A picture's parts, one below the other."""
-    figure = pyplot.figure(figsize=(width, sum(heights)), layout="constrained")
-    return list(figure.subfigures(len(heights), 1, height_ratios=heights, squeeze=False)[:, 0])
+def _places(heights: Sequence[float], panels: int) -> tuple[Figure, list[Axes]]:
+    """A picture, and places of these heights, one below the other, with room for words."""
+    words = 0.5 * len(heights) + 0.25 * panels
+    figure = pyplot.figure(figsize=(WIDTH, sum(heights) + words), layout="constrained")
+    places = figure.subplots(len(heights), 1, squeeze=False, height_ratios=heights)
+    return figure, list(places[:, 0])
 
 
 def _draw_counts(axes: Axes, panel: Panel) -> None:
@@ -233,7 +273,10 @@ def _draw_counts(axes: Axes, panel: Panel) -> None:
         tell_cycles(axes.xaxis)
     else:
         axes.xaxis.set_major_locator(MaxNLocator(integer=True))
-    axes.set_xlabel(f"cycles measured by {panel.domain} (height: how often, logarithmic, {most} at most)")
+    kind = "logarithmic" if is_wide(bins) else "linear"
+    axes.set_xlabel(
+        f"cycles measured by {panel.domain}, {kind} (height: how often, logarithmic, {most} at most)"
+    )
 
 
 def _counted(row: Row) -> str:

@@ -9,7 +9,7 @@ from typing import TYPE_CHECKING
 
 from tp_sdk.bounds import EntryBound
 from tp_sdk.keys import LENGTH
-from tp_sdk.plots import SMALL, colour_of, pyplot, save
+from tp_sdk.plots import PLAIN, SMALL, WIDTH, colour_of, grey, ink, pyplot, save, title
 from tp_sdk.replay import Did, Replay, number
 from tp_sdk.report import Report, Section
 from tp_sdk.schedule import Entry, Slot, hart_for, harts_in, places_on, slots_of, slots_of_each
@@ -17,14 +17,17 @@ from tp_sdk.schedule import Entry, Slot, hart_for, harts_in, places_on, slots_of
 # (after that one, which tells where the library is missing)
 from matplotlib.lines import Line2D
 from matplotlib.patches import Patch
+from matplotlib.ticker import MaxNLocator, StrMethodFormatter
 
 if TYPE_CHECKING:
     from matplotlib.axes import Axes
 
-_PAD, _USED, _IDLE = "0.88", "0.35", "0.97"
+_PAD, _USED, _IDLE = 0.12, 0.65, 0.03  # of the texts' colour
 _SAVED = "////"
 _ABOVE, _BELOW = 0.6, 0.8  # from a lane's first row to its top, and from its last one to its end
 _BETWEEN = 0.2  # lanes
+_IN_A_ROW = 6  # slots of each hart
+_COLUMNS = 3  # of the legend
 
 
 @dataclass(frozen=True)
@@ -62,6 +65,35 @@ def lanes_of(entries: Sequence[Entry], domains: int) -> list[Lane]:
     return lanes
 
 
+@dataclass(frozen=True)
+class Part:
+    """A row of a strip: the numbers of its slots, from 0, and how many are drawn in all rows, of so many
+    that each hart had."""
+
+    strip: Strip
+    slots: range
+    drawn: int
+    of_each: int
+
+    @property
+    def is_first(self) -> bool:
+        """The boot is drawn in it."""
+        return self.slots.start == 0
+
+    @property
+    def is_last(self) -> bool:
+        """No other row of the strip comes after it."""
+        return self.slots.stop == self.drawn
+
+
+def parts_of(entries: Sequence[Entry], strip: Strip, most: int) -> list[Part]:
+    """The rows of a strip for its first slots."""
+    of_each = slots_of_each(entries, strip.report)
+    drawn = min(of_each, most)
+    starts = range(0, max(drawn, 1), _IN_A_ROW)
+    return [Part(strip, range(it, min(it + _IN_A_ROW, drawn)), drawn, of_each) for it in starts]
+
+
 def draw_timeline(
     file: Path,
     names: Sequence[str],
@@ -71,77 +103,86 @@ def draw_timeline(
     bounds: Sequence[EntryBound] = (),
 ) -> None:
     """The first slots, what was done in them, their pads and what switches used, a strip for each report,
-    in which each hart has a lane; and, where bounds are given, those of each domain beside the bound with
-    every call."""
+    in whose rows each hart has a lane; and, where bounds are given, those of each domain beside the bound
+    with every call."""
     of_domains = list({it.domain: it for it in bounds}.values())
     lanes = lanes_of(entries, len(names))
-    heights = [0.7 + 0.5 * (lanes[-1].last_row + 1)] * len(strips)
-    heights += [0.7 + 0.25 * len(of_domains)] if of_domains else []
-    figure, places = pyplot.subplots(
-        len(heights),
-        1,
-        squeeze=False,
-        figsize=(15, 0.9 + sum(heights)),
-        layout="constrained",
-        height_ratios=heights,
-    )
-    of_strips = places[: len(strips), 0]
-    for axes, strip in zip(of_strips, strips):
-        _draw_strip(axes, names, lanes, entries, strip, most)
-        axes.sharex(of_strips[-1])
-        axes.tick_params(labelbottom=axes is of_strips[-1])
-    of_strips[-1].set_xlabel("cycles" if len(lanes) == 1 else "cycles, by each hart's own clock")
+    parts = [part for strip in strips for part in parts_of(entries, strip, most)]
+    legend = _legend(strips, bool(of_domains))
+    heights = [0.1 + 0.17 * -(-len(legend) // _COLUMNS)]
+    heights += [0.5 * (lanes[-1].last_row + 1)] * len(parts)
+    heights += [0.3 + 0.25 * len(of_domains)] if of_domains else []
+    # (what stands above and below them in words)
+    words = 0.5 * (len(heights) - 1) + 0.15 * (len(names) + 1) * len(strips)
+    figure = pyplot.figure(figsize=(WIDTH, sum(heights) + words), layout="constrained")
+    above, *places = figure.subplots(len(heights), 1, height_ratios=heights)
+    above.set_axis_off()
+    above.legend(handles=legend, loc="upper left", ncols=_COLUMNS, frameon=False, borderaxespad=0)
+    # (a cycle is as wide in each row)
+    widest = max(_cycles(entries, part)[1] for part in parts)
+    for axes, part in zip(places, parts):
+        _draw_part(axes, names, lanes, entries, part)
+        first, _ = _cycles(entries, part)
+        axes.set_xlim(first, first + widest)
     if of_domains:
-        _draw_bounds(places[-1, 0], names, of_domains)
-    figure.legend(
-        handles=_legend(strips, bool(of_domains)), loc="upper right", ncols=7, fontsize=SMALL, frameon=False
-    )
+        _draw_bounds(places[-1], names, of_domains)
     save(figure, file)
 
 
-def _draw_strip(
-    axes: Axes,
-    names: Sequence[str],
-    lanes: Sequence[Lane],
-    entries: Sequence[Entry],
-    strip: Strip,
-    most: int,
+def _cycles(entries: Sequence[Entry], part: Part) -> tuple[int, int]:
+    """When a row begins, and how many cycles it has, of all harts."""
+    starts, ends = [], []
+    for hart in range(harts_in(entries)):
+        slots = list(slots_of(entries, part.slots.stop, hart))[part.slots.start :]
+        starts.append(0 if part.is_first else slots[0].start)
+        ends.append(slots[-1].pad_end if slots else entries[places_on(entries, hart)[-1]].pad)
+    return min(starts), max(ends) - min(starts)
+
+
+def _draw_part(
+    axes: Axes, names: Sequence[str], lanes: Sequence[Lane], entries: Sequence[Entry], part: Part
 ) -> None:
-    of_each = slots_of_each(entries, strip.report)
-    count = min(of_each, most)
     for lane in lanes:
-        _draw_lane(axes, lane, list(slots_of(entries, count, lane.hart)), of_each, entries, strip)
+        _draw_lane(axes, lane, entries, part)
     rows = {row: domain for lane in lanes for domain, row in lane.rows.items()}
     of_hart = "" if len(lanes) == 1 else "hart {}: "
-    axes.set_yticks(
-        list(rows), [of_hart.format(hart_for(entries, it)) + names[it] for it in rows.values()]
-    )
+    axes.set_yticks(list(rows), [of_hart.format(hart_for(entries, it)) + names[it] for it in rows.values()])
     axes.set_ylim(lanes[-1].last_row + _BELOW, -_ABOVE)
-    axes.set_title(strip.title + _untold(strip, count), loc="left", fontsize=SMALL)
+    axes.xaxis.set_major_locator(MaxNLocator(nbins=8, integer=True))
+    axes.xaxis.set_major_formatter(StrMethodFormatter("{x:,.0f}"))
+    axes.set_title(title(_head(part, len(lanes))), loc="left", fontsize=PLAIN)
+    if part.is_last:
+        clock = "cycles" if len(lanes) == 1 else "cycles, by each hart's own clock"
+        told = [_summary(section, entries, part) for section in part.strip.report.sections]
+        axes.set_xlabel("\n".join([clock, *told]), loc="left", fontsize=SMALL)
 
 
-def _draw_lane(
-    axes: Axes, lane: Lane, slots: Sequence[Slot], of_each: int, entries: Sequence[Entry], strip: Strip
-) -> None:
-    """A hart's first slots, of so many that each hart had."""
-    most = [switch.used for switch in strip.report.switches]
-    told = None if strip.replays is None else strip.replays[lane.hart]
-    _draw_pad(axes, lane, (0, entries[lane.last_entry].pad), told.boot if told else most[lane.last_entry])
-    for place, slot in enumerate(slots):
+def _draw_lane(axes: Axes, lane: Lane, entries: Sequence[Entry], part: Part) -> None:
+    """A hart's slots in a row."""
+    most = [switch.used for switch in part.strip.report.switches]
+    told = None if part.strip.replays is None else part.strip.replays[lane.hart]
+    if part.is_first:
+        _draw_pad(axes, lane, (0, entries[lane.last_entry].pad), told.boot if told else most[lane.last_entry])
+    slots = list(slots_of(entries, part.slots.stop, lane.hart))
+    for place in part.slots:
+        slot = slots[place]
         replay = told if told and place < len(told.slots) else None
         _draw_slot(axes, slot, lane.rows[slot.domain], replay.slots[place] if replay else None)
         # (a run ends with its last slot, whose switch it doesn't have)
-        if place < of_each - 1:
+        if place < part.of_each - 1:
             used = replay.used[place] if replay and place < len(replay.used) else most[slot.entry]
             _draw_pad(axes, lane, (slot.end, slot.pad_end), used)
-    for section in strip.report.sections:
-        if section.number not in lane.rows:
-            continue
-        row = lane.rows[section.number]
-        _draw_readings(axes, section, row, slots)
-        axes.text(
-            1.005, row, _summary(section), transform=axes.get_yaxis_transform(), fontsize=SMALL, va="center"
-        )
+    for section in part.strip.report.sections:
+        if section.number in lane.rows:
+            clocks = _readings_in(section, slots[part.slots.start :])
+            row = lane.rows[section.number]
+            axes.vlines(clocks, row + 0.28, row + 0.4, color=ink(), linewidth=0.5)
+
+
+def _readings_in(section: Section, slots: Sequence[Slot]) -> list[int]:
+    """The listed clocks that it read in its own of these slots."""
+    own = [slot for slot in slots if slot.domain == section.number]
+    return [it for it in section.readings if any(slot.start <= it < slot.end for slot in own)]
 
 
 def _draw_bounds(axes: Axes, names: Sequence[str], bounds: Sequence[EntryBound]) -> None:
@@ -158,13 +199,21 @@ def _draw_bounds(axes: Axes, names: Sequence[str], bounds: Sequence[EntryBound])
     axes.set_xlabel("cycles from the end of a domain's slot: the bound on the switch, the least pad")
 
 
-def _untold(strip: Strip, slots: int) -> str:
-    """From which slot on a strip has no more than the report itself tells."""
-    told = 0 if strip.replays is None else len(strip.replays[0].slots)
-    if told == slots:
-        return ""
-    since = f"from slot {told} on " if told else ""
-    return f" ({since}of each switch the most that its entry's used)"
+def _head(part: Part, harts: int) -> str:
+    """Which slots a row has, and from which on it has no more than the report itself tells."""
+    first, last = part.slots.start + 1, part.slots.stop
+    on_each = "" if harts == 1 else " on each hart"
+    head = f"{part.strip.title}: slots {first} to {last} of {part.of_each}{on_each}"
+    told = _told_slots(part)
+    if told >= last and part.strip.replays is not None:
+        return head
+    since = f"from slot {told + 1} on " if told >= first else ""
+    return f"{head} ({since}of each switch the most that its entry's used)"
+
+
+def _told_slots(part: Part) -> int:
+    """Of how many slots it is known what was done in them."""
+    return 0 if part.strip.replays is None else min(part.drawn, len(part.strip.replays[0].slots))
 
 
 def _draw_slot(axes: Axes, slot: Slot, row: float, did: Did | None) -> None:
@@ -177,11 +226,11 @@ def _draw_slot(axes: Axes, slot: Slot, row: float, did: Did | None) -> None:
         ran = did.ended_at or LENGTH.low
     height = (row - 0.4, 0.8)
     axes.broken_barh(
-        [(slot.start, whole)], height, facecolor=_IDLE, edgecolor=colour_of(slot.domain), linewidth=0.6
+        [(slot.start, whole)], height, facecolor=grey(_IDLE), edgecolor=colour_of(slot.domain), linewidth=0.6
     )
     axes.broken_barh([(slot.start, ran)], height, facecolor=colour_of(slot.domain), alpha=0.55)
     if did is not None and not did.had_ended:
-        axes.text(slot.start + whole / 2, row, _told(did), ha="center", va="center", fontsize=SMALL - 1)
+        axes.text(slot.start + whole / 2, row, _told(did), ha="center", va="center", fontsize=SMALL)
 
 
 def _told(did: Did) -> str:
@@ -198,22 +247,32 @@ def _draw_pad(axes: Axes, lane: Lane, pad: tuple[int, int], used: int) -> None:
     start, end = pad
     top = min(lane.rows.values()) - _ABOVE
     whole = (top, lane.last_row + _BELOW - top)
-    axes.broken_barh([(start, end - start)], whole, facecolor=_PAD)
-    axes.broken_barh([(start, used)], whole, facecolor=_USED)
-    axes.text(start + used, lane.last_row + 0.65, f" {used:,}", fontsize=SMALL - 1, va="center")
+    axes.broken_barh([(start, end - start)], whole, facecolor=grey(_PAD))
+    axes.broken_barh([(start, used)], whole, facecolor=grey(_USED))
+    axes.text(start + used, lane.last_row + 0.65, f" {used:,}", fontsize=SMALL, va="center")
 
 
-def _draw_readings(axes: Axes, section: Section, row: float, slots: Sequence[Slot]) -> None:
-    """The clocks that it read, at their cycles in its own slots."""
-    own = [slot for slot in slots if slot.domain == section.number]
-    clocks = [it for it in section.readings if any(slot.start <= it < slot.end for slot in own)]
-    axes.vlines(clocks, row + 0.28, row + 0.4, color="black", linewidth=0.5)
-
-
-def _summary(section: Section) -> str:
+def _summary(section: Section, entries: Sequence[Entry], part: Part) -> str:
+    """What a domain did in the slots that are drawn, where that is known, and in all."""
     retired, calls = number(section, "retired"), number(section, "replies")
-    read = _many(section.readings_count, "reading")
-    return f"{section.status}\n{_many(retired, 'instruction')}\n{_many(calls, 'call')}, {read}"
+    read = section.readings_count
+    at_end = f"at the end {section.status.split(' pc ')[0]}"
+    told = _told_slots(part)
+    if part.strip.replays is None or told in (0, part.of_each):
+        done = _done(retired, calls, _many(read, "reading"))
+        return f"{section.name}: {done} in all {_many(part.of_each, 'slot')}; {at_end}"
+    hart = hart_for(entries, section.number)
+    slots = list(slots_of(entries, told, hart))
+    own = [did for slot, did in zip(slots, part.strip.replays[hart].slots) if slot.domain == section.number]
+    listed = "" if read <= len(section.readings) else f" of the first {len(section.readings)}"
+    readings = _many(len(_readings_in(section, slots)), "reading") + listed
+    done = _done(sum(it.retired for it in own), sum(it.calls for it in own), readings)
+    in_all = f"in all {part.of_each}: {retired:,}, {calls:,} and {read:,}"
+    return f"{section.name}: {done} in slots 1 to {told}; {in_all}; {at_end}"
+
+
+def _done(retired: int, calls: int, readings: str) -> str:
+    return f"{_many(retired, 'instruction')}, {_many(calls, 'call')} and {readings}"
 
 
 def _many(number: int, what: str) -> str:
@@ -229,16 +288,16 @@ def _legend(strips: Sequence[Strip], has_bounds: bool) -> list[Patch | Line2D]:
             alpha=0.55,
             label="a slot: instructions retired in it" if is_replayed else "a slot",
         ),
-        Patch(facecolor=_IDLE, edgecolor=colour_of(0), label="the domain had ended"),
+        Patch(facecolor=grey(_IDLE), edgecolor=colour_of(0), label="the domain had ended"),
         Line2D(
             [],
             [],
-            color="black",
+            color=ink(),
             marker="|",
             linestyle="none",
             label="it read its clock (of its first 256 readings)",
         ),
-        Patch(facecolor=_PAD, label="pad"),
-        Patch(facecolor=_USED, label="cycles that the switch used"),
+        Patch(facecolor=grey(_PAD), label="pad"),
+        Patch(facecolor=grey(_USED), label="cycles that the switch used"),
         *([saved] if has_bounds else []),
     ]

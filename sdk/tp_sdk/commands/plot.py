@@ -43,11 +43,12 @@ _HELP = """Draws reports of `tp run`, `tp harts` and `tp ablate`, as NAME.svg or
       what one domain measured in each FOLDER/*.report: a spy beside many neighbours, say
   tp-plot matrix FOLDER OTHER --domain spy -o spy.svg
       what one domain measured beside each secret, in FOLDER/*.report and in OTHER/*.report of the
-      same names, on one scale, with the bits that it tells: all guards on, and one off, say
+      same names, on one scale, with the bits that it tells: all guards on, and one off, say; where
+      there are too many measurements for a picture, those that differ
   tp-plot memory mine.toml -o mine.svg
       whose each frame and each set of the second level is, and what is shared
 
-An image may be a description, too (tp-image)."""
+An image may be a description, too (tp-image). Pictures are 830 pixels wide, as a page of text is."""
 
 
 def main(words: list[str]) -> int:
@@ -74,9 +75,14 @@ def main(words: list[str]) -> int:
         command.add_argument(
             "-o", dest="out", type=Path, required=True, metavar="PICTURE", help="NAME.svg or NAME.png"
         )
+        command.add_argument("--dark", action="store_true", help="light on dark, for a dark page")
     asked = parser.parse_args(words)
     if asked.out.suffix not in _SUFFIXES:
         raise Fault(f"{asked.out}: a picture is {' or '.join('NAME' + suffix for suffix in _SUFFIXES)}")
+    if asked.dark:
+        from tp_sdk.plots import use_dark_paper
+
+        use_dark_paper()
     asked.draw(asked)
     return 0
 
