@@ -38,6 +38,7 @@ if TYPE_CHECKING:
 _OVER_END, _ALONE = 0.28, 0.08  # of the texts' colour
 _NONE = "no readings to draw"
 _BINS = 120
+_BESIDE_NAMES = 84  # letters of a title, where the rows' names are long
 
 
 @dataclass(frozen=True)
@@ -241,7 +242,7 @@ def draw_histogram(file: Path, panels: Sequence[Panel]) -> None:
     """How often so many cycles were measured, a strip for each report."""
     figure, places = _places([0.4 * len(panel.rows) for panel in panels], len(panels))
     for axes, panel in zip(places, panels):
-        axes.set_title(title(panel.verdict), loc="left", fontsize=PLAIN)
+        axes.set_title(title(panel.verdict, _BESIDE_NAMES), loc="left", fontsize=PLAIN)
         _draw_counts(axes, panel)
     save(figure, file)
 

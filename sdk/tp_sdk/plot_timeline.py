@@ -9,7 +9,7 @@ from typing import TYPE_CHECKING
 
 from tp_sdk.bounds import EntryBound
 from tp_sdk.keys import LENGTH
-from tp_sdk.plots import PLAIN, SMALL, WIDTH, colour_of, grey, ink, pyplot, save, title
+from tp_sdk.plots import PLAIN, SMALL, WIDTH, colour_of, grey, ink, paper, pyplot, save, title
 from tp_sdk.replay import Did, Replay, number
 from tp_sdk.report import Report, Section
 from tp_sdk.schedule import Entry, Slot, hart_for, harts_in, places_on, slots_of, slots_of_each
@@ -28,6 +28,7 @@ _ABOVE, _BELOW = 0.6, 0.8  # from a lane's first row to its top, and from its la
 _BETWEEN = 0.2  # lanes
 _IN_A_ROW = 6  # slots of each hart
 _COLUMNS = 3  # of the legend
+_ROOM, _LETTER = 7.8, 0.065  # inches: of a row, of a letter in the smallest type
 
 
 @dataclass(frozen=True)
@@ -121,9 +122,9 @@ def draw_timeline(
     # (a cycle is as wide in each row)
     widest = max(_cycles(entries, part)[1] for part in parts)
     for axes, part in zip(places, parts):
-        _draw_part(axes, names, lanes, entries, part)
         first, _ = _cycles(entries, part)
         axes.set_xlim(first, first + widest)
+        _draw_part(axes, names, lanes, entries, part)
     if of_domains:
         _draw_bounds(places[-1], names, of_domains)
     save(figure, file)
@@ -203,6 +204,8 @@ def _head(part: Part, harts: int) -> str:
     """Which slots a row has, and from which on it has no more than the report itself tells."""
     first, last = part.slots.start + 1, part.slots.stop
     on_each = "" if harts == 1 else " on each hart"
+    if part.of_each == 0:
+        return f"{part.strip.title}: the boot, and no slot{on_each}"
     head = f"{part.strip.title}: slots {first} to {last} of {part.of_each}{on_each}"
     told = _told_slots(part)
     if told >= last and part.strip.replays is not None:
@@ -230,7 +233,18 @@ def _draw_slot(axes: Axes, slot: Slot, row: float, did: Did | None) -> None:
     )
     axes.broken_barh([(slot.start, ran)], height, facecolor=colour_of(slot.domain), alpha=0.55)
     if did is not None and not did.had_ended:
-        axes.text(slot.start + whole / 2, row, _told(did), ha="center", va="center", fontsize=SMALL)
+        _tell(axes, slot, row, _told(did))
+
+
+def _tell(axes: Axes, slot: Slot, row: float, words: str) -> None:
+    """What was done, in the slot's middle; on from its start, and on paper of its own, where it is narrow."""
+    first, last = axes.get_xlim()
+    room = (slot.end - slot.start) / (last - first) * _ROOM
+    if max(map(len, words.splitlines())) * _LETTER < room:
+        axes.text((slot.start + slot.end) / 2, row, words, ha="center", va="center", fontsize=SMALL)
+        return
+    below = {"facecolor": paper(), "alpha": 0.75, "pad": 0.6, "linewidth": 0}
+    axes.text(slot.start, row, words, ha="left", va="center", fontsize=SMALL, bbox=below)
 
 
 def _told(did: Did) -> str:

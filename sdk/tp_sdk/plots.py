@@ -87,9 +87,9 @@ def colour_of(domain: int) -> str:
     return f"C{domain % 10}"
 
 
-def title(text: str) -> str:
+def title(text: str, letters: int = _LETTERS) -> str:
     """A text in as many lines as it needs."""
-    return "\n".join(textwrap.wrap(text, _LETTERS))
+    return "\n".join(textwrap.wrap(text, letters))
 
 
 def short(name: str) -> str:
