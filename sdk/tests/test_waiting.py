@@ -130,16 +130,29 @@ def said_to_a_terminal(command: list[str | Path], tp: Path) -> tuple[int, str]:
     return it.returncode, said.decode()
 
 
-def test_a_terminal_sees_how_long_it_takes(tmp_path: Path) -> None:
+@pytest.mark.parametrize(
+    "words",
+    (
+        ("tp-counts", SKELETON, "--domain", "mine"),
+        ("tp-image", SKELETON),
+        ("tp-plot", "timeline", SKELETON, SKELETON.with_suffix(".report"), "-o", "/dev/null/a.svg"),
+        ("tp-report", SKELETON.with_suffix(".report"), "--image", SKELETON),
+        ("tp-run", SKELETON, "--slots", "1"),
+    ),
+    ids=lambda it: it[0],
+)
+def test_a_terminal_sees_how_long_it_takes(words: tuple[str | Path, ...], tmp_path: Path) -> None:
     pytest.importorskip("tqdm")
     slow = script(tmp_path / "tp", ACCEPTS.format(seconds=1.3))
-    command: list[str | Path] = [sys.executable, SDK / "tp-image", SKELETON]
-    code, said = said_to_a_terminal(command, slow)
-    assert code == 0 and "tp-image: 0 runs of tp ended, 00:01" in said
-    # (and the line is cleared)
-    assert said.rstrip("\r\n").endswith("\r") or said.endswith("\r")
+    _, said = said_to_a_terminal([sys.executable, SDK / words[0], *words[1:]], slow)
+    assert f"{words[0]}: 0 runs of tp ended, 00:01" in said
+    # (and the line is cleared before another is written)
+    assert said.split("ended, ")[-1].split("\r")[1].strip() == ""
+
+
+def test_what_is_quick_says_nothing(tmp_path: Path) -> None:
     quick = script(tmp_path / "tp", ACCEPTS.format(seconds=0))
-    assert said_to_a_terminal(command, quick) == (0, "")
+    assert said_to_a_terminal([sys.executable, SDK / "tp-image", SKELETON], quick) == (0, "")
 
 
 def test_what_is_no_terminal_sees_nothing_nor_does_one_without_the_library(tmp_path: Path) -> None:
