@@ -104,6 +104,14 @@ def test_a_matrix_of_many_measurements(tmp_path: Path, measurements: int, tellin
     assert is_readable(text) and width_of(text) <= 1600 and told in text
 
 
+def test_pixels_are_as_many(tmp_path: Path) -> None:
+    picture = tmp_path / "a.png"
+    words = ("memory", EXAMPLES / "victim.toml", "-o", picture)
+    assert main([*map(str, words)]) == 0
+    # (bytes 16 to 19 are the width)
+    assert PAGE - 20 < int.from_bytes(picture.read_bytes()[16:20], "big") <= PAGE + 10
+
+
 def test_many_sides_and_long_names(tmp_path: Path) -> None:
     folders = [tmp_path / str(number) for number in range(5)]
     for folder in folders:

@@ -29,6 +29,7 @@ Colour = str | tuple[float, ...]
 # A page of text is some 830 pixels wide, and so are pictures, in inches: there the smallest type has 9.
 WIDTH = 8.6
 SMALL, PLAIN = 7, 9
+_PIXELS = 96  # of an inch
 _LETTERS = 118  # of a line of a title
 _NAME_MOST = 20
 _DARK_PAPER, _LIGHT_INK = "#16191d", "#e8e8e8"
@@ -119,7 +120,13 @@ def save(figure: Figure, file: Path) -> None:
     metadata = {"Date": None} if file.suffix == ".svg" else None
     try:
         # ("tight" grows the picture where a text would be cut off)
-        figure.savefig(file, metadata=metadata, bbox_inches="tight", pad_inches=0.03)
+        figure.savefig(
+            file,
+            metadata=metadata,
+            bbox_inches="tight",
+            pad_inches=0.03,
+            dpi=_PIXELS if file.suffix == ".png" else "figure",
+        )
     except OSError as error:
         raise Fault(f"{file}: {error.strerror}") from None
     # (of a picture that is too large)
