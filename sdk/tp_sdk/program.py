@@ -30,7 +30,7 @@ class Program:
 
     path: Path
     shared: Path | None = None
-    progress: Progress = field(default_factory=Progress)
+    progress: Progress = field(default_factory=Progress, compare=False)
 
     @classmethod
     def find(cls, progress: Progress | None = None) -> Program:

@@ -8,8 +8,8 @@ from pathlib import Path
 from tp_sdk.faults import EXIT_CODES, INPUT_AT_FAULT, read_text
 from tp_sdk.program import Program
 from tp_sdk.report import parse_report
-from tp_sdk.schedule import slot_count
 from tp_sdk.verify import Held, with_end
+from tp_sdk.words import slots_from
 
 _HELP = """Runs one domain of an image alone, for as many slots as a report tells of, and compares
 the section that it has then with the report's, byte for byte.
@@ -34,7 +34,7 @@ def main(words: list[str]) -> int:
     parser.add_argument("--domain", required=True, metavar="NAME", help="the domain")
     parser.add_argument(
         "--slots",
-        type=slot_count,
+        type=slots_from(0),
         metavar="N",
         help="how many slots its hart had, where a section stands alone",
     )
