@@ -403,3 +403,10 @@ def test_what_else_is_broken_comes_after(tmp_path: Path) -> None:
     assert (pad["what"], pad["wanted"]) == ("`pad` of entry 0 (red)", "`pad = 6150` or more")
     image.write_text(IMAGE + "[[domain]]\n" * 30)
     assert run_tool("tp-explain", image, "refused K2 at 11 found 2 wanted 0").stdout.endswith("more\n")
+
+
+def test_an_entry_of_no_domain_is_nobodys() -> None:
+    for line, of in (("K16 at 1 found -1 wanted 2", "-1"), ("K2 at 23 found 1 wanted 0", "true")):
+        text = IMAGE.replace("domain = 1\n", f"domain = {of}\n")
+        explanation = explain(text.encode(), "mine.toml", Refusal.parse(f"refused {line}"))
+        assert (explanation.what, explanation.stands) == ("`domain` of entry 1", f"`{of}`")

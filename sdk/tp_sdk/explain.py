@@ -234,7 +234,10 @@ def _domain(number: int, image: Image) -> str:
 def _entry(number: int, image: Image) -> str:
     """An entry, and whose it is."""
     try:
-        name = image["domain"][image["schedule"][number]["domain"]]["name"]
+        owner = image["schedule"][number]["domain"]
+        # (below 0, and of a Boolean, Python would take another's)
+        is_number = type(owner) is int and owner >= 0
+        name = image["domain"][owner]["name"] if is_number else None
     except (KeyError, IndexError, TypeError):
         name = None
     return f"entry {number} ({name})" if isinstance(name, str) else f"entry {number}"
