@@ -209,7 +209,7 @@ def _switch(count: int, entry: int | None = None) -> Switch:
 
 
 def _report(slots: int, off: str | None = None, names: list[str] | None = None, harts: int = 1) -> Telling:
-    it: Any = SimpleNamespace(slots=Hole("slots", slots), off=off, sections=[], switches=[])
+    it: Any = SimpleNamespace(slots=Hole("slots", slots), off=off, sections=[], switches=[_switch(1)])
     return Telling(it, "{file}", Known(None, names or [], [], [KnownEntry(0, 0, harts - 1)]))
 
 
