@@ -10,8 +10,10 @@ from typing import Any
 
 import pytest
 from conftest import TOP, Page, conformance
+from tp_sdk.build import load_programs
+from tp_sdk.description import read_description
 from tp_sdk.explain import Explanation, explain
-from tp_sdk.known import Known, read_known
+from tp_sdk.known import Known, known_with
 from tp_sdk.refusals import Refusal
 from tp_sdk.report import parse_report
 from tp_sdk.telling import Telling
@@ -50,7 +52,8 @@ return rows.map(([text, line]) => {
 
 def known_of(image: Path) -> Known:
     """What an image tells of a run; its path is not told in the page."""
-    return replace(read_known(image, []), file=None)
+    description = read_description(image)
+    return replace(known_with(description, load_programs(description), []), file=None)
 
 
 def reports() -> list[tuple[Path, Path | None]]:
