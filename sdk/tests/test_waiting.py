@@ -25,6 +25,7 @@ READS: dict[str, tuple[tuple[str, ...], tuple[str, ...]]] = {
     "tp-plot": (("memory",), ("-o", "a.svg")),
     "tp-report": ((), ()),
     "tp-run": ((), ("--slots", "1")),
+    "tp-verify": ((str(SKELETON),), ("--domain", "mine")),
 }
 # A program that writes its process's number, and takes its time.
 SLOW = """#!/bin/sh
@@ -138,6 +139,7 @@ def said_to_a_terminal(command: list[str | Path], tp: Path) -> tuple[int, str]:
         ("tp-plot", "timeline", SKELETON, SKELETON.with_suffix(".report"), "-o", "/dev/null/a.svg"),
         ("tp-report", SKELETON.with_suffix(".report"), "--image", SKELETON),
         ("tp-run", SKELETON, "--slots", "1"),
+        ("tp-verify", SKELETON, SKELETON.with_suffix(".report"), "--domain", "mine"),
     ),
     ids=lambda it: it[0],
 )

@@ -58,9 +58,7 @@ def _assembled(source: Path, compiler: str, arch: str, room: Path) -> Loaded:
 
 
 def _run(command: list[str], source: Path, done: str, folder: Path | None = None) -> None:
-    ended = subprocess.run(
-        command, cwd=folder, capture_output=True, text=True, errors="replace", check=False
-    )
+    ended = subprocess.run(command, cwd=folder, capture_output=True, text=True, errors="replace", check=False)
     if ended.returncode != 0:
         raise Fault(f"{source}: it can't be {done} and linked\n{ended.stderr.rstrip()}")
     sys.stderr.write(ended.stderr)  # (warnings)

@@ -7,6 +7,7 @@ from pathlib import Path
 
 from tp_sdk.faults import EXIT_CODES, INPUT_AT_FAULT, read_text
 from tp_sdk.program import Program
+from tp_sdk.progress import progress
 from tp_sdk.report import parse_report
 from tp_sdk.verify import Held, with_end
 from tp_sdk.words import slots_from
@@ -43,7 +44,8 @@ def main(words: list[str]) -> int:
     report = parse_report(text if asked.slots is None else with_end(text), str(asked.report))
     held = Held.read(asked.image, asked.domain)
     slots = held.slots_of(report) if asked.slots is None else asked.slots
-    difference = held.difference(Program.find(), report, slots)
+    with progress("tp-verify") as shown:
+        difference = held.difference(Program.find(shown), report, slots)
     if difference is None:
         print(f"{asked.domain}: the section of {slots} slots is the same")
         return 0
