@@ -8,6 +8,7 @@ import { Gallery } from './gallery.js';
 import { linkOf, read } from './link.js';
 import { compile } from './module.js';
 import { Picture } from './picture.js';
+import { chooseTheme } from './toggle.js';
 import { Tour } from './tour.js';
 
 const FIRST = 'two-domains.toml';
@@ -86,17 +87,6 @@ async function share(bench) {
   find('link').select();
   const copied = await navigator.clipboard?.writeText(location.href).then(() => true, () => false);
   find('link-told').textContent = copied ? 'It is copied.' : 'Copy it from here.';
-}
-
-function chooseTheme() {
-  const root = document.documentElement;
-  const isDark = matchMedia('(prefers-color-scheme: dark)').matches;
-  root.dataset.theme = (root.dataset.theme ?? (isDark ? 'dark' : 'light')) === 'dark' ? 'light' : 'dark';
-  try {
-    localStorage.setItem('theme', root.dataset.theme);
-  } catch {
-    // (where nothing may be kept, it is chosen for this visit)
-  }
 }
 
 find('theme').addEventListener('click', chooseTheme);

@@ -24,20 +24,11 @@ TOP = Path(__file__).resolve().parents[2]
 OUT = TOP / "web" / "out"
 sys.path[:0] = [str(TOP / "sdk"), str(TOP / "web" / "data")]
 
+from browser import faults_in_console, started  # noqa: E402
 from selenium import webdriver  # noqa: E402
-from selenium.webdriver.chrome.service import Service  # noqa: E402
 from selenium.webdriver.common.by import By  # noqa: E402
 from selenium.webdriver.support.ui import Select  # noqa: E402
 
-FLAGS = (
-    "--headless=new",
-    "--no-sandbox",
-    "--disable-gpu",
-    "--disable-dev-shm-usage",
-    "--hide-scrollbars",
-    # (what moves slowly can't be clicked)
-    "--force-prefers-reduced-motion",
-)
 READY = 60  # seconds in which a page is ready on a busy machine
 GUARDS = ("flush", "prefetch", "pad", "colour", "clone", "irq")
 
@@ -112,9 +103,7 @@ class Page:
 
     def console(self) -> list[str]:
         """What the console has of faults since it was last asked."""
-        return [
-            it["message"] for it in self.driver.get_log("browser") if it["level"] in ("SEVERE", "WARNING")
-        ]
+        return faults_in_console(self.driver)
 
 
 def call_of(words: str | list[str], image: bytes = b"") -> dict[str, Any]:
@@ -154,14 +143,7 @@ def address() -> Iterator[str]:
 @pytest.fixture(scope="session")
 def driver() -> Iterator[webdriver.Chrome]:
     """The browser."""
-    options = webdriver.ChromeOptions()
-    options.binary_location = "/usr/bin/chromium"
-    for flag in FLAGS:
-        options.add_argument(flag)
-    options.set_capability("goog:loggingPrefs", {"browser": "ALL"})
-    it = webdriver.Chrome(service=Service("/usr/bin/chromedriver"), options=options)
-    it.set_script_timeout(600)
-    it.set_window_size(1280, 1000)
+    it = started()
     yield it
     it.quit()
 

@@ -9,6 +9,7 @@ import time
 from typing import Any
 
 import pytest
+from browser import CONTRAST, NAMELESS, keep_picture, look, look_as_ever
 from conftest import OUT, TOP, Page
 from selenium.webdriver.common.action_chains import ActionChains
 from selenium.webdriver.common.keys import Keys
@@ -337,7 +338,7 @@ def test_nothing_from_outside_is_allowed(page: Page) -> None:
 
 
 def test_nothing_of_the_page_reads_markup() -> None:
-    for file in sorted((TOP / "web" / "page").glob("*.js")):
+    for file in sorted(OUT.glob("*.js")):
         assert not re.search(
             r"innerHTML|outerHTML|insertAdjacentHTML|document\.write|\beval\b|new Function", file.read_text()
         ), file
@@ -371,34 +372,6 @@ def test_a_text_of_an_image_never_becomes_markup(page: Page) -> None:
 # ---- how it looks, and for whom
 
 
-NAMELESS = """
-return [...document.querySelectorAll('button, input, select, textarea, a, [role=tab], [role=img]')].filter((it) => {
-  if (it.closest('.CodeMirror')) return false;
-  const name = it.getAttribute('aria-label') || (it.getAttribute('aria-labelledby') ?? '').split(' ')
-    .map((id) => document.getElementById(id)?.textContent ?? '').join('') || it.textContent.trim()
-    || [...(it.labels ?? [])].map((label) => label.textContent).join('');
-  return !name;
-}).map((it) => it.outerHTML.slice(0, 120));
-"""
-
-# The least contrast of the texts that can be seen, by WCAG's measure, with the text that has it.
-CONTRAST = """
-const canvas = document.createElement('canvas').getContext('2d', { willReadFrequently: true });
-const rgba = (colour) => { canvas.clearRect(0, 0, 1, 1); canvas.fillStyle = colour; canvas.fillRect(0, 0, 1, 1); return [...canvas.getImageData(0, 0, 1, 1).data]; };
-const light = (parts) => { const [r, g, b] = parts.map((it) => it / 255).map((it) => (it <= 0.04045 ? it / 12.92 : ((it + 0.055) / 1.055) ** 2.4)); return 0.2126 * r + 0.7152 * g + 0.0722 * b; };
-const behind = (it) => { for (; it; it = it.parentElement) { const c = rgba(getComputedStyle(it).backgroundColor); if (c[3] > 250) return c; } return rgba(getComputedStyle(document.body).backgroundColor); };
-let least = [99, ''];
-for (const it of document.querySelectorAll('main *, header *, footer *')) {
-  const has = [...it.childNodes].some((node) => node.nodeType === 3 && node.textContent.trim());
-  if (!has || !it.checkVisibility() || it.closest('.CodeMirror, svg, noscript, :disabled')) continue;
-  const [one, two] = [light(rgba(getComputedStyle(it).color).slice(0, 3)), light(behind(it).slice(0, 3))];
-  const ratio = (Math.max(one, two) + 0.05) / (Math.min(one, two) + 0.05);
-  if (ratio < least[0]) least = [ratio, it.textContent.trim().slice(0, 40)];
-}
-return least;
-"""
-
-
 def test_everything_has_a_name(page: Page) -> None:
     assert page.script(NAMELESS) == []
     field = "document.querySelector('.CodeMirror').CodeMirror.getInputField()"
@@ -417,13 +390,7 @@ def test_everything_has_a_name(page: Page) -> None:
 def test_it_fits_and_can_be_read(page: Page, width: int, theme: str) -> None:
     try:
         page.driver.set_window_size(width, 900)
-        page.driver.execute_cdp_cmd(
-            "Emulation.setDeviceMetricsOverride",
-            {"width": width, "height": 900, "deviceScaleFactor": 1, "mobile": width < 500},
-        )
-        page.driver.execute_cdp_cmd(
-            "Emulation.setEmulatedMedia", {"features": [{"name": "prefers-color-scheme", "value": theme}]}
-        )
+        look(page.driver, width, theme)
         page.open()
         open_image(page, "channels/lines/secret-5.toml")
         run(page)
@@ -432,16 +399,9 @@ def test_it_fits_and_can_be_read(page: Page, width: int, theme: str) -> None:
             assert page.script("return document.documentElement.scrollWidth") <= width, tab
         ratio, text = page.script(CONTRAST)
         assert ratio >= 4.5, text
-        height = page.script("return document.documentElement.scrollHeight")
-        page.driver.execute_cdp_cmd(
-            "Emulation.setDeviceMetricsOverride",
-            {"width": width, "height": height, "deviceScaleFactor": 1, "mobile": width < 500},
-        )
-        LOOKS.mkdir(parents=True, exist_ok=True)
-        page.driver.save_screenshot(str(LOOKS / f"{theme}-{width}.png"))
+        keep_picture(page.driver, width, LOOKS / f"{theme}-{width}.png")
     finally:
-        page.driver.execute_cdp_cmd("Emulation.clearDeviceMetricsOverride", {})
-        page.driver.execute_cdp_cmd("Emulation.setEmulatedMedia", {"features": []})
+        look_as_ever(page.driver)
         page.driver.set_window_size(1280, 1000)
 
 
