@@ -66,6 +66,12 @@ def known_of(description: Description, programs: list[Loaded]) -> Known:
     return Known(description.file, names, programs, entries, calls)
 
 
+def known_by(report: Report, file: Path) -> Known:
+    """What a report alone tells of the image that it is of."""
+    entries = [KnownEntry(-1, switch.pad) for switch in report.switches]
+    return Known(file, [section.name for section in report.sections], [], entries)
+
+
 def _put_elf(known: Known, elf: str, arch: str) -> None:
     """The symbols and segments' names are the file's, which must be the program of the domain."""
     named, equals, rest = elf.partition("=")

@@ -32,6 +32,15 @@ class Measurements:
         """The cycles of those within which no slot ended."""
         return [cycles for cycles, is_over in zip(self.cycles, self.is_over_end) if not is_over]
 
+    def more_than(self, other: Measurements, place: int) -> int | None:
+        """How many cycles more than another's measurement in this place, where both have it, and both or
+        none with a slot's end in it."""
+        if place >= min(len(self.cycles), len(other.cycles)):
+            return None
+        if self.is_over_end[place] != other.is_over_end[place]:
+            return None
+        return self.cycles[place] - other.cycles[place]
+
 
 @dataclass(frozen=True)
 class Row:

@@ -8,7 +8,7 @@ from math import log, log10
 from pathlib import Path
 from typing import TYPE_CHECKING, Any
 
-from tp_sdk.measurements import Measurements, Row
+from tp_sdk.measurements import Row
 from tp_sdk.plots import (
     PLAIN,
     SMALL,
@@ -143,7 +143,7 @@ def _draw_differences(figure: Figure, axes: Axes, panel: Panel) -> None:
     most = 1.0
     for number, row in enumerate(panel.rows):
         for place in range(max(len(row.measurements.cycles), len(first.cycles))):
-            difference = _difference(row.measurements, first, place)
+            difference = row.measurements.more_than(first, place)
             if difference is None:
                 alone[number, place] = 1
                 continue
@@ -159,16 +159,6 @@ def _draw_differences(figure: Figure, axes: Axes, panel: Panel) -> None:
     bar.set_label("logarithmic", fontsize=SMALL)
     _name_rows(axes, panel)
     axes.set_xlabel(f"{panel.domain}: cycles more than in {panel.against or panel.compared.reports[0]}")
-
-
-def _difference(own: Measurements, first: Measurements, place: int) -> int | None:
-    """How many cycles more than the one compared with, where both have the measurement, and both or
-    none with a slot's end in it."""
-    if place >= min(len(own.cycles), len(first.cycles)):
-        return None
-    if own.is_over_end[place] != first.is_over_end[place]:
-        return None
-    return own.cycles[place] - first.cycles[place]
 
 
 def difference_colours(most: float) -> LinearSegmentedColormap:

@@ -27,6 +27,7 @@ def report_schema() -> Schema:
             slots=_INTEGER,
             domains=_array(_DOMAIN),
             switches=_array(_SWITCH),
+            differences={"anyOf": [_DIFFERENCES, {"type": "null"}]},
         ),
     }
 
@@ -94,3 +95,10 @@ _DOMAIN = _object(
     sentences=_array(_TEXT),
 )
 _SWITCH = _object(entry=_INTEGER, used=_INTEGER, pad=_INTEGER, count=_INTEGER, domain=_TEXT_OR_NONE)
+_DIFFERING = _object(what=_TEXT, here=_TEXT, there=_TEXT, sentence=_TEXT)
+_DIFFERENCES = _object(
+    other=_TEXT,
+    sections=_array(_object(number=_INTEGER, name=_TEXT, sentence=_TEXT, differing=_array(_DIFFERING))),
+    switches=_array(_DIFFERING),
+    sentences=_array(_TEXT),
+)

@@ -7,6 +7,7 @@ from dataclasses import asdict
 from typing import Any
 
 from tp_sdk.calls import BAD_CALL, CALLS, EVERY_CALL, PUT, callers_of, error_of, in_words
+from tp_sdk.differences import Differences
 from tp_sdk.elf import Loaded
 from tp_sdk.known import Known
 from tp_sdk.report import Report, Section, Stop, Switch, Thread
@@ -21,10 +22,16 @@ _PLURALS = {"reply": "replies", "switch": "switches"}
 
 
 class Telling:
-    """A report, and what is known besides it."""
+    """A report, what is known besides it, and how it differs from another where one is compared with it."""
 
     def __init__(
-        self, report: Report, file: str, known: Known, slots: int | None = None, how: str = ""
+        self,
+        report: Report,
+        file: str,
+        known: Known,
+        slots: int | None = None,
+        how: str = "",
+        differences: Differences | None = None,
     ) -> None:
         """Of one domain alone a report doesn't tell how many slots there were; `how` it was run is told."""
         self.report = report
@@ -32,17 +39,26 @@ class Telling:
         self.known = known
         self.slots = report.slots if slots is None else slots
         self.how = how
+        self.differences = differences
 
     def sentences(self) -> list[str]:
         """The report in words, what belongs to a domain indented below it."""
+        lines = [self.head()]
+        for section in self.report.sections:
+            lines.extend(self.domain(section).sentences())
+        lines.extend(self.switches())
+        return lines if self.differences is None else lines + self.differences.sentences()
+
+    def head(self) -> str:
+        """What is said of the whole run."""
         image = self.known.file
         of = f" of {image}" if image is not None and str(image) != self.file else ""
         off = "" if self.report.off is None else f", unprotected: the guard {self.report.off} was off"
-        lines = [f"{self.file}: {_count(self.slots, 'slot')}{self._on_harts()}{self.how}{of}{off}"]
-        for section in self.report.sections:
-            lines.extend(self.domain(section).sentences())
-        lines.extend(self._switch(switch) for switch in self.report.switches)
-        return lines
+        return f"{self.file}: {_count(self.slots, 'slot')}{self._on_harts()}{self.how}{of}{off}"
+
+    def switches(self) -> list[str]:
+        """A sentence for each entry's switches."""
+        return [self._switch(switch) for switch in self.report.switches]
 
     def fields(self) -> dict[str, Any]:
         """What `--json` writes."""
@@ -53,6 +69,7 @@ class Telling:
             "slots": self.slots,
             "domains": [self.domain(section).fields() for section in self.report.sections],
             "switches": [self._switch_fields(switch) for switch in self.report.switches],
+            "differences": None if self.differences is None else self.differences.fields(),
         }
 
     def domain(self, section: Section) -> DomainTold:

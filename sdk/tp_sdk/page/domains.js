@@ -1,0 +1,51 @@
+// The run in figures and in sentences: each domain, switches, and the differences to a second report. The
+// sentences are those of tp-report.
+
+import { element, find } from './dom.js';
+import { classOf, facts, grouped, run } from './words.js';
+
+export function showRun() {
+  find('head').textContent = facts.head;
+  const figures = [
+    ['slots', run.slots], ['domains', run.domains.length], ['harts', facts.schedule.why_not ? null : facts.schedule.harts],
+    ['entries', run.switches.length], ['switches', run.switches.reduce((sum, { count }) => sum + count, 0)],
+    ['instructions', run.domains.reduce((sum, { retired }) => sum + retired, 0)],
+  ];
+  find('figures').replaceChildren(...figures.filter(([, number]) => number !== null).map(([what, number]) => (
+    element('div', {}, element('dt', {}, what), element('dd', {}, grouped(number))))));
+  find('unprotected').hidden = run.unprotected === null;
+  find('unprotected').textContent = `The guard ${run.unprotected} was off: what a domain saw may tell of its neighbours.`;
+  find('cards').replaceChildren(...run.domains.map(cardOf));
+  find('switch-sentences').replaceChildren(...facts.switch_sentences.map(item));
+}
+
+// What is printed stands behind a stroke.
+const item = (line) => element('li', { class: line.startsWith('|') ? 'part' : null }, line);
+
+function cardOf({ number, sentences: [state, ...lines] }) {
+  return element('article', { class: `section ${classOf(number)}` },
+    element('h3', {}, state), listOf(lines));
+}
+
+export function showDifferences() {
+  const { differences } = run;
+  const box = find('compared');
+  if (differences === null) {
+    box.replaceChildren(element('p', { class: 'told' }, 'No second report was given by --against.'));
+    return;
+  }
+  const { sections, switches, sentences } = differences;
+  const about = switches.length ? switches.map(({ sentence }) => sentence) : [sentences.at(-1)];
+  box.replaceChildren(
+    element('p', { class: 'lead' }, sentences[0]),
+    element('div', { class: 'cards' }, ...sections.map(comparedOf)),
+    listOf(about),
+  );
+}
+
+function comparedOf({ number, sentence, differing }) {
+  const kind = `section ${classOf(number)} ${differing.length ? 'differs' : 'same'}`;
+  return element('article', { class: kind }, element('h3', {}, sentence), listOf(differing.map((it) => it.sentence)));
+}
+
+const listOf = (lines) => element('ul', {}, ...lines.map(item));
