@@ -126,6 +126,7 @@ def pages(tmp_path_factory: pytest.TempPathFactory) -> Iterator[dict[str, Path]]
     folder = tmp_path_factory.mktemp("pages")
     hostile = hostile_report(folder / "hostile.report")
     flush, beside = LINES / "flush" / "secret-3.report", LINES / "run" / "secret-5.report"
+    unpadded = next((EXAMPLES / "channels").glob("*/pad/secret-0.report"))
     big = big_run(folder)
     with pytest.MonkeyPatch.context() as patch:
         # (no image need be run again)
@@ -136,6 +137,7 @@ def pages(tmp_path_factory: pytest.TempPathFactory) -> Iterator[dict[str, Path]]
                 ("whole", flush, ("--image", LINES / "secret-3.toml", "--against", beside)),
                 ("victim", EXAMPLES / "victim.report", ("--image", EXAMPLES / "victim.toml")),
                 ("harts", EXAMPLES / "two-harts.report", ("--image", EXAMPLES / "two-harts.toml")),
+                ("unpadded", unpadded, ("--image", unpadded.parents[1] / "secret-0.toml")),
                 ("alone", EXAMPLES / "victim.report", ()),
                 ("hostile", hostile, ("--against", hostile)),
                 ("big", big, ("--image", big.with_suffix(".toml"))),
@@ -221,6 +223,13 @@ def test_the_slots_are_those_of_the_schedule(name: str, view: View) -> None:
     assert [row[6:] for row in rows] == pads
     drawn = view.script("return document.querySelectorAll('#timeline rect.slot').length")
     assert drawn == len(due)
+
+
+def test_with_pad_off_nothing_is_waited(view: View) -> None:
+    view.open("unpadded")
+    assert "The guard pad was off" in view.text("time-why")
+    assert view.text("slot-told").endswith("used 733 at most, and nothing was waited.")
+    assert [row[5] for row in view.rows("switch-table")] == ["0", "0"]
 
 
 def test_a_report_alone_has_its_pads_drawn(view: View) -> None:
@@ -466,7 +475,8 @@ def test_everything_has_a_name(view: View) -> None:
 @pytest.mark.parametrize("width", WIDTHS)
 def test_it_fits_and_can_be_read(view: View, width: int, theme: str) -> None:
     try:
-        for name in ("whole", "big") if theme == "light" else ("whole",):
+        # (the long one is told in the same parts)
+        for name in ("whole", "big") if (width, theme) == (360, "light") else ("whole",):
             look(view.driver, width, theme)
             view.open(name)
             view.script("for (const it of document.querySelectorAll('details')) it.open = true")
@@ -502,7 +512,7 @@ def test_it_prints(view: View) -> None:
         view.open("whole")
         for name in ("theme", "time-tools", "time-keys"):
             assert not view.find(name).is_displayed()
-        assert view.script("return getComputedStyle(document.body).backgroundColor") == "rgb(250, 247, 240)"
+        assert view.script("return getComputedStyle(document.body).backgroundColor") == "rgb(255, 255, 255)"
         assert view.script("return document.documentElement.scrollWidth") <= 720
         tables = "[...document.querySelectorAll('.scrolled')].filter((it) => it.scrollHeight > it.clientHeight + 2)"
         assert view.script(f"return {tables}.length") == 0

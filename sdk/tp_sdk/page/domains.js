@@ -4,6 +4,8 @@
 import { element, find } from './dom.js';
 import { classOf, facts, grouped, run } from './words.js';
 
+const LONG = 1500; // letters of a list
+
 export function showRun() {
   find('head').textContent = facts.head;
   const figures = [
@@ -24,7 +26,7 @@ const item = (line) => element('li', { class: line.startsWith('|') ? 'part' : nu
 
 function cardOf({ number, sentences: [state, ...lines] }) {
   return element('article', { class: `section ${classOf(number)}` },
-    element('h3', {}, state), listOf(lines));
+    element('h3', {}, state), listOf(lines, state));
 }
 
 export function showDifferences() {
@@ -39,13 +41,18 @@ export function showDifferences() {
   box.replaceChildren(
     element('p', { class: 'lead' }, sentences[0]),
     element('div', { class: 'cards' }, ...sections.map(comparedOf)),
-    listOf(about),
+    element('article', { class: 'section' }, listOf(about, 'Switches')),
   );
 }
 
 function comparedOf({ number, sentence, differing }) {
   const kind = `section ${classOf(number)} ${differing.length ? 'differs' : 'same'}`;
-  return element('article', { class: kind }, element('h3', {}, sentence), listOf(differing.map((it) => it.sentence)));
+  return element('article', { class: kind }, element('h3', {}, sentence), listOf(differing.map((it) => it.sentence), sentence));
 }
 
-const listOf = (lines) => element('ul', {}, ...lines.map(item));
+// A list that is long, as of a domain that printed much, is scrolled.
+function listOf(lines, name) {
+  const isLong = lines.join('').length > LONG;
+  const scrolled = isLong ? { class: 'long', tabindex: 0, 'aria-label': name } : {};
+  return element('ul', scrolled, ...lines.map(item));
+}

@@ -37,11 +37,11 @@ export class Lane {
     return Math.max(0, Math.min(turns * this.entries.length + place, this.slots - 1));
   }
 
-  // The slots that are there from one cycle to another, at most so many.
+  // The slots that are there from one cycle to another, which itself is left out; at most so many.
   between(from, to, most) {
     if (this.slots === 0) return [];
     const first = this.at(from);
-    const count = Math.min(this.at(to) - first + 1, most);
+    const count = Math.min(this.at(Math.max(from, to - 1)) - first + 1, most);
     return Array.from({ length: count }, (_, place) => this.slot(first + place));
   }
 }

@@ -4,7 +4,7 @@
 import { element, find, svg } from './dom.js';
 import { Lane } from './lane.js';
 import { ticks } from './scale.js';
-import { classOf, facts, grouped, legendOf, many, nameOf, run, short, table, widthOf } from './words.js';
+import { classOf, facts, grouped, isPadded, legendOf, many, nameOf, run, short, table, waitedOf, widthOf } from './words.js';
 
 const MOST_DRAWN = 300; // slots of all lanes
 const FIRST_SHOWN = 12; // slots, and where there is little room
@@ -133,10 +133,14 @@ export class Timeline {
   // Without lengths a place on the axis has no cycle.
   #axis(height) {
     if (this.schedule.why_not) return [];
-    return ticks(this.from, this.to, (this.width - this.left) / 110).flatMap((cycle) => [
-      svg('line', { class: 'grid', x1: this.#x(cycle), x2: this.#x(cycle), y1: 16, y2: height }),
-      svg('text', { class: 'axis', x: this.#x(cycle) + 3, y: 12 }, grouped(cycle)),
-    ]);
+    return ticks(this.from, this.to, (this.width - this.left) / 110).flatMap((cycle) => {
+      const [x, told] = [this.#x(cycle), grouped(cycle)];
+      const hasRoom = x + told.length * LETTER < this.width - this.left;
+      return [
+        svg('line', { class: 'grid', x1: x, x2: x, y1: 16, y2: height }),
+        svg('text', { class: 'axis', x: x + 3, y: 12 }, hasRoom ? told : ''),
+      ];
+    });
   }
 
   #names(lane) {
@@ -214,7 +218,7 @@ export class Timeline {
 
 function rowOf({ why_not: whyNot }, { hart, number, entry, start, end, padEnd }) {
   const times = whyNot ? [null, null] : [start, end];
-  const pads = padEnd > end ? [entry.pad, entry.used, Math.max(0, entry.pad - entry.used)] : [null, null, null];
+  const pads = padEnd > end ? [entry.pad, entry.used, waitedOf(entry)] : [null, null, null];
   return [number + 1, hart, entry.place, entry.domain === null ? null : nameOf(entry.domain), ...times, ...pads];
 }
 
@@ -223,16 +227,16 @@ function slotInWords({ harts, slots, why_not: whyNot }, { number, entry, start, 
   const when = whyNot ? `of entry ${entry.place}, of a length that is not known`
     : `${nameOf(entry.domain)} (entry ${entry.place}), from cycle ${grouped(start)} to ${grouped(end)}`;
   if (padEnd === end) return `${of}: ${when}. The run ends with it.`;
-  const waited = Math.max(0, entry.pad - entry.used);
+  const waited = isPadded ? `so ${grouped(waitedOf(entry))} or more were waited` : 'and nothing was waited';
   return `${of}: ${when}. Its pad: ${many(entry.pad, 'cycle')}; switches of this entry used ${grouped(entry.used)} `
-    + `at most, so ${grouped(waited)} or more were waited.`;
+    + `at most, ${waited}.`;
 }
 
 // What stands for what.
 export function legendOfTimeline(schedule) {
   legendOf(find('time-legend'), [
     [schedule.why_not ? 'unknown' : 'slot of-0', schedule.why_not ? 'a slot, of a length that is not known' : 'a slot, with its number'],
-    ['pad', 'pad: waited'],
+    ['pad', isPadded ? 'pad: waited' : 'pad: not waited'],
     ['used', 'pad: the most that a switch of the entry used'],
     ...(schedule.why_not ? [] : [['clock', 'a clock that the domain read, of its first 256 readings']]),
   ]);

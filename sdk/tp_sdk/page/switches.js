@@ -2,7 +2,7 @@
 
 import { element, find, svg } from './dom.js';
 import { ticks } from './scale.js';
-import { classOf, facts, grouped, many, run, short, table, widthOf } from './words.js';
+import { classOf, facts, grouped, isPadded, many, run, short, table, waitedOf, widthOf } from './words.js';
 
 const MOST_BARS = 64;
 const BAR = 18;
@@ -13,7 +13,7 @@ const rows = run.switches.map((it) => ({
   ...it,
   of: run.domains.findIndex(({ name }) => name === it.domain),
   hart: facts.schedule.entries[it.entry]?.hart ?? 0,
-  waited: Math.max(0, it.pad - it.used),
+  waited: waitedOf(it),
   share: it.pad > 0 ? (100 * it.used) / it.pad : 0,
 }));
 
@@ -72,7 +72,7 @@ function chart(shown) {
     ...drawn.map((row, place) => bar(row, names[place], place * BAR, left, x)),
   );
   const capped = drawn.length < rows.length ? ` Drawn are the first ${drawn.length} of ${many(rows.length, 'entry', 'entries')}, as the table is sorted.` : '';
-  return [picture, element('figcaption', { class: 'told' }, `A whole bar: the pad, in cycles. Filled: the most that a switch used of it; the rest was waited.${capped}`)];
+  return [picture, element('figcaption', { class: 'told' }, `A whole bar: the pad, in cycles. Filled: the most that a switch used of it; the rest was ${isPadded ? '' : 'not '}waited.${capped}`)];
 }
 
 const nameOfRow = ({ entry, domain }) => `${entry}${domain === null ? '' : ` ${short(domain)}`}`;

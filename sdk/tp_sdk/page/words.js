@@ -12,6 +12,10 @@ export const grouped = (number) => number.toLocaleString('en');
 
 export const many = (count, what, plural = `${what}s`) => `${grouped(count)} ${count === 1 ? what : plural}`;
 
+// What was waited of a pad, at least: `used` is the most. Without the guard nothing is.
+export const isPadded = run.unprotected !== 'pad';
+export const waitedOf = ({ pad, used }) => (isPadded ? Math.max(0, pad - used) : 0);
+
 // A domain's name; that of an entry whose domain no image tells is the entry itself.
 export const nameOf = (domain) => run.domains[domain]?.name ?? '';
 
