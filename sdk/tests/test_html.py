@@ -266,6 +266,9 @@ def test_what_is_at_fault_is_one_sentence(program: object, tmp_path: Path) -> No
     loud, quiet = EXAMPLES / "spy-loud.report", EXAMPLES / "spy-quiet.report"
     page, no_report = tmp_path / "a.html", tmp_path / "no.report"
     no_report.write_text("accepted\n")
+    long, fewer = tmp_path / "long.report", tmp_path / "fewer.report"
+    long.write_text("switch 0 used 1 pad 2 count 999999999999\nend\n")
+    fewer.write_text("switch 0 used 1 pad 2 count -1\nend\n")
     other = tmp_path / "other.toml"
     other.write_text((EXAMPLES / "spy-loud.toml").read_text().replace('hex = "', 'hex = "13000000', 1))
     for words, told in (
@@ -278,6 +281,8 @@ def test_what_is_at_fault_is_one_sentence(program: object, tmp_path: Path) -> No
         ((loud, "--html", page, "--image", EXAMPLES / "victim.toml"), f"{loud}:1: a report of another image"),
         ((loud, "--html", page, "--image", other), f"{loud}:3: a report of another image: 'retired "),
         ((loud, "--html", page, "--image", no_report), f"{no_report}: no TOML: "),
+        ((long, "--html", page), f"{long}: its switches are of 999,999,999,999 slots: a run has 262,144 at most"),
+        ((fewer, "--html", page), f"{fewer}:1: no section of a report begins here"),
     ):  # fmt: skip
         ended = run_tool("tp-report", *words)
         assert ended.returncode == 1 and ended.stdout == ""

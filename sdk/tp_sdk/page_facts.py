@@ -8,12 +8,15 @@ from itertools import groupby
 from pathlib import Path
 from typing import Any
 
+from tp_sdk.faults import Fault
+from tp_sdk.keys import HART
 from tp_sdk.measurements import MEASURES, Measurements, SlotEnded, by_pads, by_schedule, measurements_of
 from tp_sdk.memory import Frame, Memory, Use, memory_of
 from tp_sdk.refusals import Image
 from tp_sdk.report import Report, Section
 from tp_sdk.schedule import Entry, entries_of, hart_for, harts_in, slots_of_each
 from tp_sdk.telling import Telling
+from tp_sdk.words import SLOTS
 
 Facts = dict[str, Any]
 
@@ -25,6 +28,7 @@ def facts_of(telling: Telling, image: Image | None, other: Report | None = None)
     """What a page has, ready for JSON: `run` is the object of `tp-report --json`. `image` is that of the run,
     where it is given, and `other` the report that is compared with it."""
     report, file = telling.report, str(telling.known.file)
+    _refuse_more_slots_than_a_run_has(telling)
     entries = None if image is None else entries_of(image, file)
     memory = None if image is None else memory_of(image, file)
     return {
@@ -38,6 +42,16 @@ def facts_of(telling: Telling, image: Image | None, other: Report | None = None)
         "measurements": [_measured(*it) for it in zip(report.sections, _slot_ended(report, entries))],
         "others": None if other is None else _others(report, other, entries),
     }
+
+
+def _refuse_more_slots_than_a_run_has(telling: Telling) -> None:
+    most = (
+        SLOTS.high * telling.known.harts if telling.known.file is not None else SLOTS.high * (HART.high + 1)
+    )
+    if telling.report.slots > most:
+        raise Fault(
+            f"{telling.file}: its switches are of {telling.report.slots:,} slots: a run has {most:,} at most"
+        )
 
 
 # ---- time

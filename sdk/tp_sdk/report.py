@@ -188,4 +188,6 @@ def _switch(line: str, at: int) -> Switch:
     words = line.split()
     named = dict(zip(words[::2], words[1::2]))
     entry, used, pad, count = (int(named[key]) for key in ("switch", "used", "pad", "count"))
+    if min(entry, used, pad, count) < 0:
+        raise ValueError("no switch")
     return Switch(entry, used, pad, count, at)

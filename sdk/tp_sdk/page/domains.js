@@ -9,14 +9,18 @@ const LONG = 1500; // letters of a list
 export function showRun() {
   find('head').textContent = facts.head;
   const figures = [
-    ['slots', run.slots], ['domains', run.domains.length], ['harts', facts.schedule.why_not ? null : facts.schedule.harts],
-    ['entries', run.switches.length], ['switches', run.switches.reduce((sum, { count }) => sum + count, 0)],
+    ['slots', run.slots],
+    ['domains', run.domains.length],
+    ['harts', facts.schedule.why_not ? null : facts.schedule.harts],
+    ['entries', run.switches.length],
+    ['switches', run.switches.reduce((sum, { count }) => sum + count, 0)],
     ['instructions', run.domains.reduce((sum, { retired }) => sum + retired, 0)],
   ];
   find('figures').replaceChildren(...figures.filter(([, number]) => number !== null).map(([what, number]) => (
     element('div', {}, element('dt', {}, what), element('dd', {}, grouped(number))))));
   find('unprotected').hidden = run.unprotected === null;
-  find('unprotected').textContent = `The guard ${run.unprotected} was off: what a domain saw may tell of its neighbours.`;
+  find('unprotected').textContent = `The guard ${run.unprotected} was off: what a domain saw may tell of its `
+    + 'neighbours.';
   find('cards').replaceChildren(...run.domains.map(cardOf));
   find('switch-sentences').replaceChildren(...facts.switch_sentences.map(item));
 }
@@ -47,7 +51,8 @@ export function showDifferences() {
 
 function comparedOf({ number, sentence, differing }) {
   const kind = `section ${classOf(number)} ${differing.length ? 'differs' : 'same'}`;
-  return element('article', { class: kind }, element('h3', {}, sentence), listOf(differing.map((it) => it.sentence), sentence));
+  const lines = differing.map((it) => it.sentence);
+  return element('article', { class: kind }, element('h3', {}, sentence), listOf(lines, sentence));
 }
 
 // A list that is long, as of a domain that printed much, is scrolled.

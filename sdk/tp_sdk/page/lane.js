@@ -2,7 +2,8 @@
 // are asked for, so that a run of any length takes no memory.
 
 export class Lane {
-  // `entries` are those of the schedule; `nominal` is drawn for the length of a slot where none is known.
+  // `entries` are those of the schedule, `slots` how many were run, one or more; `nominal` is drawn for the
+  // length of a slot where none is known.
   constructor(hart, entries, slots, nominal) {
     this.hart = hart;
     this.slots = slots;
@@ -17,7 +18,7 @@ export class Lane {
       return start;
     });
     this.domains = [...new Set(this.entries.map(({ domain }) => domain))].sort((one, other) => one - other);
-    this.end = slots === 0 ? this.boot.pad : this.slot(slots - 1).end;
+    this.end = this.slot(slots - 1).end;
   }
 
   // A slot by its number, from 0. A run ends with its last slot, whose switch it doesn't have.
@@ -39,7 +40,7 @@ export class Lane {
 
   // The slots that are there from one cycle to another, which itself is left out; at most so many.
   between(from, to, most) {
-    if (this.slots === 0) return [];
+    if (from >= this.end) return [];
     const first = this.at(from);
     const count = Math.min(this.at(Math.max(from, to - 1)) - first + 1, most);
     return Array.from({ length: count }, (_, place) => this.slot(first + place));

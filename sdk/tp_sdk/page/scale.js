@@ -5,9 +5,10 @@ export function ticks(from, to, most) {
   const least = (to - from) / Math.max(most, 1);
   const power = 10 ** Math.floor(Math.log10(Math.max(least, 1)));
   const step = [1, 2, 5, 10].map((it) => it * power).find((it) => it >= least) ?? 10 * power;
-  const found = [];
-  for (let at = Math.ceil(from / step) * step; at <= to; at += step) found.push(at);
-  return found;
+  const first = Math.ceil(from / step) * step;
+  // (counted, as a small step is nothing beside a great number)
+  const places = Array.from({ length: Math.max(0, Math.ceil(most)) + 1 }, (_, place) => first + place * step);
+  return places.filter((it) => it <= to);
 }
 
 // Values that want a logarithmic scale: the greatest is more than ten times the least.

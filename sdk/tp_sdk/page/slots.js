@@ -4,7 +4,8 @@
 import { element, find, svg } from './dom.js';
 import { Lane } from './lane.js';
 import { ticks } from './scale.js';
-import { classOf, facts, grouped, isPadded, legendOf, many, nameOf, run, short, table, waitedOf, widthOf } from './words.js';
+import { drawnInWords, HEADS, legendRows, rowOf, slotInWords, whyInWords } from './slot_words.js';
+import { classOf, facts, grouped, legendOf, nameOf, run, short, table, widthOf } from './words.js';
 
 const MOST_DRAWN = 300; // slots of all lanes
 const FIRST_SHOWN = 12; // slots, and where there is little room
@@ -148,8 +149,8 @@ export class Timeline {
     const names = lane.domains.map((domain, row) => svg('text', {
       x: this.left - 8, y: lane.top + (row + 0.5) * ROW + 4, 'text-anchor': 'end',
     }, domain === null ? 'slots' : short(nameOf(domain), most)));
-    const hart = svg('text', { class: 'axis', x: this.left - 8, y: lane.top - 6, 'text-anchor': 'end' }, `hart ${lane.hart}`);
-    return this.lanes.length > 1 ? [hart, ...names] : names;
+    const at = { x: this.left - 8, y: lane.top - 6, 'text-anchor': 'end' };
+    return this.lanes.length > 1 ? [svg('text', { class: 'axis', ...at }, `hart ${lane.hart}`), ...names] : names;
   }
 
   #lane(lane) {
@@ -194,67 +195,40 @@ export class Timeline {
   // ---- in words
 
   #tell() {
-    const { slot, chosen: { hart, number }, schedule } = this;
-    find('slot-told').textContent = slotInWords(schedule, slot, hart);
+    const { slot, chosen: { hart, number }, schedule, most } = this;
+    tell('slot-told', slotInWords(schedule, slot, hart));
     find('slot').value = number + 1;
     find('hart').value = hart;
-    const shown = this.lanes.map((lane) => lane.between(this.from, this.to, this.most));
-    const of = (some) => `${grouped(some[0].number + 1)} to ${grouped(some.at(-1).number + 1)}`;
-    const each = shown.map((some, lane) => `${this.lanes.length > 1 ? `of hart ${lane} ` : ''}${of(some)}`);
-    const capped = schedule.slots > this.most ? `, at most ${grouped(this.most)} at once${this.lanes.length > 1 ? ' of each hart' : ''}` : '';
-    find('time-drawn').textContent = `Drawn: slots ${each.join(', ')} of ${grouped(schedule.slots)}${capped}.`;
+    const shown = this.lanes.map((lane) => lane.between(this.from, this.to, most));
+    tell('time-drawn', drawnInWords(schedule, shown, most));
   }
 
   #tabulate() {
     const details = find('time-table');
     if (!details.open) return;
-    const slots = this.lanes.flatMap((lane) => (
-      lane.between(this.from, this.to, this.most).map((slot) => ({ hart: lane.hart, ...slot }))));
-    const rows = slots.map((it) => rowOf(this.schedule, it));
-    const heads = ['Slot', 'Hart', 'Entry', 'Domain', 'Starts', 'Ends', 'Pad', 'Used at most', 'Waited at least'];
-    details.querySelector('.scrolled').replaceChildren(table('Slots in view, in cycles of their hart', heads, rows));
+    const rows = this.lanes.flatMap((lane) => (
+      lane.between(this.from, this.to, this.most).map((slot) => rowOf(this.schedule, slot, lane.hart))));
+    details.querySelector('.scrolled').replaceChildren(table('Slots in view, in cycles of their hart', HEADS, rows));
   }
 }
 
-function rowOf({ why_not: whyNot }, { hart, number, entry, start, end, padEnd }) {
-  const times = whyNot ? [null, null] : [start, end];
-  const pads = padEnd > end ? [entry.pad, entry.used, waitedOf(entry)] : [null, null, null];
-  return [number + 1, hart, entry.place, entry.domain === null ? null : nameOf(entry.domain), ...times, ...pads];
-}
-
-function slotInWords({ harts, slots, why_not: whyNot }, { number, entry, start, end, padEnd }, hart) {
-  const of = `Slot ${grouped(number + 1)} of ${grouped(slots)}${harts > 1 ? ` of hart ${hart}` : ''}`;
-  const when = whyNot ? `of entry ${entry.place}, of a length that is not known`
-    : `${nameOf(entry.domain)} (entry ${entry.place}), from cycle ${grouped(start)} to ${grouped(end)}`;
-  if (padEnd === end) return `${of}: ${when}. The run ends with it.`;
-  const waited = isPadded ? `so ${grouped(waitedOf(entry))} or more were waited` : 'and nothing was waited';
-  return `${of}: ${when}. Its pad: ${many(entry.pad, 'cycle')}; switches of this entry used ${grouped(entry.used)} `
-    + `at most, ${waited}.`;
-}
-
-// What stands for what.
-export function legendOfTimeline(schedule) {
-  legendOf(find('time-legend'), [
-    [schedule.why_not ? 'unknown' : 'slot of-0', schedule.why_not ? 'a slot, of a length that is not known' : 'a slot, with its number'],
-    ['pad', isPadded ? 'pad: waited' : 'pad: not waited'],
-    ['used', 'pad: the most that a switch of the entry used'],
-    ...(schedule.why_not ? [] : [['clock', 'a clock that the domain read, of its first 256 readings']]),
-  ]);
+// What is said already is not said again.
+function tell(id, words) {
+  if (find(id).textContent !== words) find(id).textContent = words;
 }
 
 // Puts the timeline into the page; where no slot was run there is none.
 export function startTimeline() {
   const { schedule } = facts;
-  find('time-why').textContent = [schedule.why_not, schedule.slots === 0 ? 'No slot was run.'
-    : schedule.why_not ? 'Drawn is one turn of the entries; a slot is as long as the longest pad.' : '',
-  ].filter(Boolean).join(' ');
+  find('time-why').textContent = whyInWords(schedule);
   if (schedule.slots === 0) {
     for (const id of ['time-tools', 'timeline', 'slot-told', 'time-keys', 'time-table']) find(id).hidden = true;
     return null;
   }
+  const option = (_, hart) => element('option', { value: hart }, hart);
   find('slot').max = schedule.slots;
-  find('hart').replaceChildren(...Array.from({ length: schedule.harts }, (_, hart) => element('option', { value: hart }, hart)));
+  find('hart').replaceChildren(...Array.from({ length: schedule.harts }, option));
   for (const it of [find('hart'), find('hart-label')]) it.hidden = schedule.harts === 1;
-  legendOfTimeline(schedule);
+  legendOf(find('time-legend'), legendRows(schedule));
   return new Timeline(schedule);
 }

@@ -65,25 +65,38 @@ function chart(shown) {
   const height = drawn.length * BAR + 20;
   const picture = svg('svg', { viewBox: `0 0 ${width} ${height}`, role: 'img', 'aria-label': told(drawn) });
   picture.append(
-    ...ticks(0, most, (width - left) / 110).flatMap((at) => [
-      svg('line', { class: 'grid', x1: x(at), x2: x(at), y1: 0, y2: height - 16 }),
-      svg('text', { class: 'axis', x: x(at), y: height - 4, 'text-anchor': x(at) > width - 40 ? 'end' : 'middle' }, grouped(at)),
-    ]),
+    ...ticks(0, most, (width - left) / 110).flatMap((at) => axis(at, x(at), width, height)),
     ...drawn.map((row, place) => bar(row, names[place], place * BAR, left, x)),
   );
-  const capped = drawn.length < rows.length ? ` Drawn are the first ${drawn.length} of ${many(rows.length, 'entry', 'entries')}, as the table is sorted.` : '';
-  return [picture, element('figcaption', { class: 'told' }, `A whole bar: the pad, in cycles. Filled: the most that a switch used of it; the rest was ${isPadded ? '' : 'not '}waited.${capped}`)];
+  return [picture, element('figcaption', { class: 'told' }, caption(drawn))];
+}
+
+function caption(drawn) {
+  const rest = `the rest was ${isPadded ? '' : 'not '}waited`;
+  const capped = drawn.length < rows.length
+    ? ` Drawn are the first ${drawn.length} of ${many(rows.length, 'entry', 'entries')}, as the table is sorted.` : '';
+  return `A whole bar: the pad, in cycles. Filled: the most that a switch used of it; ${rest}.${capped}`;
+}
+
+function axis(at, x, width, height) {
+  const anchor = x > width - 40 ? 'end' : 'middle';
+  return [
+    svg('line', { class: 'grid', x1: x, x2: x, y1: 0, y2: height - 16 }),
+    svg('text', { class: 'axis', x, y: height - 4, 'text-anchor': anchor }, grouped(at)),
+  ];
 }
 
 const nameOfRow = ({ entry, domain }) => `${entry}${domain === null ? '' : ` ${short(domain)}`}`;
 
 function told(drawn) {
   const share = (it) => Math.max(...it.map((row) => row.share)).toFixed(1);
-  return `Bars of ${many(drawn.length, 'entry', 'entries')}: no switch used more than ${share(drawn)} percent of its pad. The table has the numbers.`;
+  return `Bars of ${many(drawn.length, 'entry', 'entries')}: no switch used more than ${share(drawn)} percent of its `
+    + 'pad. The table has the numbers.';
 }
 
 function bar(row, name, y, left, x) {
-  const rect = (kind, cycles) => svg('rect', { class: kind, x: left, y: y + 3, width: x(cycles) - left, height: BAR - 6 });
+  const at = { x: left, y: y + 3, height: BAR - 6 };
+  const rect = (kind, cycles) => svg('rect', { class: kind, ...at, width: x(cycles) - left });
   return svg('g', {},
     svg('title', {}, `entry ${name}: ${grouped(row.used)} of ${grouped(row.pad)}`),
     svg('text', { x: left - 6, y: y + 13, 'text-anchor': 'end' }, name),

@@ -29,16 +29,22 @@ export function table(caption, heads, rows) {
   const kinds = heads.map((_, place) => kind(place));
   const told = (it) => (typeof it === 'number' ? grouped(it) : it ?? '–');
   const head = heads.map((it, place) => element('th', { scope: 'col', class: kinds[place] }, it));
-  const lines = rows.map((row) => element('tr', {}, ...row.map((it, place) => element('td', { class: kinds[place] }, told(it)))));
+  const line = (row) => element('tr', {}, ...row.map((it, place) => element('td', { class: kinds[place] }, told(it))));
   return element('table', {},
     element('caption', {}, caption),
     element('thead', {}, element('tr', {}, ...head)),
-    element('tbody', {}, ...lines));
+    element('tbody', {}, ...rows.map(line)));
+}
+
+// What is longer than a page has room for is scrolled, by keys, too.
+export function scrolled(name, it, kind = 'div') {
+  return element(kind, { class: 'scrolled', role: 'region', 'aria-label': name, tabindex: 0 }, it);
 }
 
 // A list of what each colour means: `[[class, words], ..]`.
 export function legendOf(list, rows) {
-  list.replaceChildren(...rows.map(([kind, words]) => element('li', {}, element('span', { class: `key ${kind}` }), words)));
+  list.replaceChildren(...rows.map(([kind, words]) => (
+    element('li', {}, element('span', { class: `key ${kind}` }), words))));
 }
 
 // The width that a chart has; a window that is not shown has none.
