@@ -44,8 +44,9 @@ export function showDifferences() {
   const about = switches.length ? switches.map(({ sentence }) => sentence) : [sentences.at(-1)];
   box.replaceChildren(
     element('p', { class: 'lead' }, sentences[0]),
-    element('div', { class: 'cards' }, ...sections.map(comparedOf)),
-    element('article', { class: 'section' }, listOf(about, 'Switches')),
+    element('div', { class: 'cards' },
+      ...sections.map(comparedOf),
+      element('article', { class: 'section plain' }, listOf(about, 'Switches'))),
   );
 }
 
