@@ -1,4 +1,5 @@
 pub mod Steps
+pub mod OneSlot
 pub mod Ahead
 pub mod Commuting
 pub mod First

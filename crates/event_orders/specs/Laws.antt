@@ -1,9 +1,9 @@
 -- The laws of a machine's orders; they are clauses of functions of `laws`, and of crates that have a machine.
-use Rattle.std.specs.Prelude.{◌≡◌, ◌≢◌, ◌⊎◌, ℕ, ◌<◌, ◌≤◌, true, false, List, [], ◌∷◌}
+use Rattle.std.specs.Prelude.{◌≡◌, ◌≢◌, ◌⊎◌, ℕ, suc, ◌<◌, ◌≤◌, true, false, List, [], ◌∷◌}
 use Rattle.std.specs.List.{All}
 use Rattle.tp_base.specs.Table.{empty}
 use Rattle.event_orders.specs.Machine.{Machine}
-use Rattle.event_orders.specs.Orders.{by_events, by_slots, cycles_left, after, Counted, owed_of, all_counted, drawn_events, drawn_slots}
+use Rattle.event_orders.specs.Orders.{run, slot_events, by_events, by_slots, cycles_left, after, Counted, owed_of, all_counted, drawn_events, drawn_slots}
 
 -- equal in each part: each hart's, and what switches share
 pub record Alike (m : Machine) (w v : m.World) : Type 0 where
@@ -29,6 +29,13 @@ CommuteLaw m = (g h : ℕ) (w : m.World) → g < m.harts → h < m.harts → g �
 abbrev pub PassLaw : Machine → Type 0
 PassLaw m = (g h : ℕ) (w : m.World) → g < m.harts → h < m.harts → g ≢ h → m.IsSound w
     → m.inside g w ≡ true → m.inside h w ≡ false → Alike m (m.next g (m.next h w)) (m.next h (m.next g w))
+
+-- ---- one slot
+
+-- events of a hart alone with which its next slot has ended, and no later one has begun, are its switch and the slot's own
+abbrev pub OneSlotLaw : Machine → Type 0
+OneSlotLaw m = (h k : ℕ) (w : m.World) → h < m.harts → m.IsSound w → m.inside h w ≡ false
+    → m.inside h (run m h k w) ≡ false → m.slots h (run m h k w) ≡ suc (m.slots h w) → k ≡ suc (slot_events m h w)
 
 -- ---- by the least clock
 

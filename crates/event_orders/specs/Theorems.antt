@@ -9,6 +9,9 @@ CommuteTheorem = (p : Small) → IsSmall p → laws.CommuteLaw (machine p)
 abbrev pub PassTheorem : Type 0
 PassTheorem = (p : Small) → IsSmall p → laws.PassLaw (machine p)
 
+abbrev pub OneSlotTheorem : Type 0
+OneSlotTheorem = (p : Small) → IsSmall p → laws.OneSlotLaw (machine p)
+
 abbrev pub EndsTheorem : Type 0
 EndsTheorem = (p : Small) → IsSmall p → laws.EndsLaw (machine p)
 

@@ -82,7 +82,7 @@ module _ (i : Image) (n : ℕ) where
   unfolding harts after
   cold_clock h there = (all_cold_are i many h there).clock
 
-  cycles_are : (b : ℕ) → b ≤ many → cycles_left m n (harts i []) b ≡ cycles_before i n b
+  pub cycles_are : (b : ℕ) → b ≤ many → cycles_left m n (harts i []) b ≡ cycles_before i n b
   unfolding cycles_left cycles_before
   cycles_are zero le = refl
   cycles_are (suc b) le =

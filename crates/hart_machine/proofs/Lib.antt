@@ -5,5 +5,6 @@ pub mod Costs
 pub mod Events
 pub mod Reached
 pub mod IsMachine
-pub mod Reports
 pub mod LeastClock
+pub mod OneSlot
+pub mod Reports

@@ -11,19 +11,19 @@ use Rattle.event_orders.proofs.Drawn.{counted_law}
 use Rattle.image_check.specs.Image.{Image, own_of}
 use Rattle.image_check.specs.Laws.{Runnable}
 use Rattle.sched_table.specs.Schedule.{harts_in}
-use Rattle.world_view.specs.Machine.{Hart}
-use Rattle.world_view.specs.Harts.{Harts, Progress, hart_of_domain, next, after, harts, view_on}
+use Rattle.world_view.specs.Machine.{World, Hart}
+use Rattle.world_view.specs.Harts.{Harts, Progress, hart_of_domain, next, after, harts}
 use Rattle.world_view.proofs.runs.WholeLaws.{same_view}
 use Rattle.world_view.proofs.harts.Runs.{home}
 use Rattle.world_view.proofs.harts.Isolation.{at_first}
 use Rattle.hart_machine.specs.HartMachine.{IsReached, machine_of}
-use Rattle.hart_machine.specs.Laws.{SameReport, enough, event_by_event, slot_by_slot, ThroughLaw, SlotBySlotLaw, SwitchOrderLaw, CountedOffLaw}
+use Rattle.hart_machine.specs.Laws.{SameReport, enough, event_by_event, slot_by_slot, ThroughLaw, SlotBySlotLaw, SlotsLaw, SwitchOrderLaw, CountedOffLaw}
 use Rattle.hart_machine.proofs.IsMachine.{is_machine}
+use Rattle.hart_machine.proofs.LeastClock.{ran_law}
 
 module _ (i : Image) (r : Runnable i) where
   -- worlds that are equal in each part
-  same_report : (s t : Harts) → Alike (machine_of i) s t → SameReport i s t
-  unfolding view_on
+  same_report : (s t : Harts) → Alike (machine_of i) s t → SameReport i s.world t.world
   same_report s t a = record {
     seen = λ d id.
         let same = (a.each (hart_of_domain i d) (home i r d)).parts.domains d id refl in
@@ -33,11 +33,11 @@ module _ (i : Image) (r : Runnable i) where
   }
 
   -- before the first event
-  first_reached : IsReached i (harts i [])
+  pub first_reached : IsReached i (harts i [])
   first_reached =
       record { order = []; of_harts = All-nil (λ (g : ℕ). g < harts_in i.all.schedule); comes_to = refl }
 
-  first_between : AreBetween (machine_of i) (harts i [])
+  pub first_between : AreBetween (machine_of i) (harts i [])
   first_between h there = ap (λ (x : Progress). x.inside) (at_first i r h)
 
 -- an order's events are the same by both names
@@ -58,6 +58,10 @@ slot_by_slot_law i n r =
     let both = slots_law (machine_of i) (is_machine i r) n (enough i n) (harts i []) (first_reached i r) (first_between i r)
     (through i n r) in
     (same_report i r (event_by_event i n).world (slot_by_slot i n).world both.0, both.1)
+
+pub slots : SlotsLaw
+slots i n r =
+    subst (λ (w : World). SameReport i w (slot_by_slot i n).world.world) (sym (ran_law i n)) (slot_by_slot_law i n r).0
 
 pub switch_order : SwitchOrderLaw
 switch_order i n r =

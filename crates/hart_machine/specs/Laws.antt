@@ -1,18 +1,33 @@
 -- The laws of an image's harts slot by slot; they are the clauses of functions of `laws`.
-use Rattle.std.specs.Prelude.{◌≡◌, ℕ, ◌<◌, List, []}
-use Rattle.event_orders.specs.Orders.{Ran, by_events, by_slots, cycles_left, owed_of, all_counted}
+use Rattle.std.specs.Prelude.{◌≡◌, ℕ, suc, ◌<◌, List, [], ◌++◌, replicate}
+use Rattle.event_orders.specs.Orders.{Ran, slot_events, run_slot, by_events, by_slots, cycles_left, owed_of, all_counted}
 use Rattle.event_orders.specs.Laws as laws
 use Rattle.event_orders.specs.Laws.{AreBetween, AreThrough, none_owed}
 use Rattle.image_check.specs.Image.{Image}
 use Rattle.image_check.specs.Laws.{Runnable}
 use Rattle.sched_table.specs.Schedule.{harts_in}
-use Rattle.world_view.specs.Machine.{clock_of}
+use Rattle.world_view.specs.Machine.{World, clock_of}
 use Rattle.world_view.specs.Relations.{IsDomain}
-use Rattle.world_view.specs.Harts.{Harts, harts, view_on}
-use Rattle.world_view.specs.HartLaws.{AreHartsOf}
+use Rattle.world_view.specs.View.{view_in}
+use Rattle.world_view.specs.Harts.{Harts, IsOutside, slots_of, harts}
+use Rattle.world_view.specs.HartLaws.{AreHartsOf, IsBetween}
 use Rattle.hart_orders.specs.declared.choice.Choice.TheVariants.{LeastClock}
 use Rattle.hart_orders.specs.Order.{ran}
 use Rattle.hart_machine.specs.HartMachine.{machine_of}
+
+-- ---- one slot
+
+-- events of a hart alone with which its next slot has ended, and no later one has begun, are its switch and the slot's own
+pub record IsItsSlot (i : Image) (h events : ℕ) (s later : Harts) : Type 0 where
+  pub count : events ≡ suc (slot_events (machine_of i) h s)
+  pub comes_to : later ≡ run_slot (machine_of i) h s
+
+abbrev pub OneSlotLaw : Type 0
+OneSlotLaw =
+    (i : Image) (h events : ℕ) (order : List ℕ) → Runnable i → AreHartsOf i order → h < harts_in i.all.schedule →
+    let s = harts i order in
+    let later = harts i (order ++ replicate events h) in
+    IsOutside h s → IsBetween i h later → slots_of h later ≡ suc (slots_of h s) → IsItsSlot i h events s later
 
 -- ---- by the least clock, from the first event until each hart has had n slots
 
@@ -27,10 +42,10 @@ abbrev pub slot_by_slot : Image → ℕ → Ran Harts
 slot_by_slot i n = by_slots (machine_of i) n (enough i n) (harts i [])
 
 -- the same is seen of each domain, switches took the same, in their order, and each hart's clock is the same
-pub record SameReport (i : Image) (s t : Harts) : Type 0 where
-  pub seen : (d : ℕ) → IsDomain i d → view_on i d s ≡ view_on i d t
-  pub used : s.world.used ≡ t.world.used
-  pub clocks : (h : ℕ) → h < harts_in i.all.schedule → clock_of h s.world ≡ clock_of h t.world
+pub record SameReport (i : Image) (w v : World) : Type 0 where
+  pub seen : (d : ℕ) → IsDomain i d → view_in i d w ≡ view_in i d v
+  pub used : w.used ≡ v.used
+  pub clocks : (h : ℕ) → h < harts_in i.all.schedule → clock_of h w ≡ clock_of h v
 
 -- event by event a run comes to where the order of the least clock leads
 abbrev pub RanLaw : Type 0
@@ -45,7 +60,11 @@ abbrev pub SlotBySlotLaw : Type 0
 SlotBySlotLaw = (i : Image) (n : ℕ) → Runnable i →
     let slow = event_by_event i n in
     let fast = slot_by_slot i n in
-    SameReport i slow.world fast.world × (slow.switches ≡ fast.switches)
+    SameReport i slow.world.world fast.world.world × (slow.switches ≡ fast.switches)
+
+-- so it is what the order of the least clock leads to
+abbrev pub SlotsLaw : Type 0
+SlotsLaw = (i : Image) (n : ℕ) → Runnable i → SameReport i (ran i LeastClock n) (slot_by_slot i n).world.world
 
 -- that order is by clock, and then by the hart's number
 abbrev pub SwitchOrderLaw : Type 0
@@ -59,7 +78,7 @@ abbrev pub CountedOffLaw : Type 0
 CountedOffLaw = (i : Image) (order : List ℕ) → Runnable i → AreHartsOf i order
     → AreBetween (machine_of i) (harts i order) →
     let s = all_counted (machine_of i) order (none_owed (harts i [])) in
-    SameReport i (harts i order) s.world × ((h : ℕ) → h < harts_in i.all.schedule → owed_of h s ≡ 0)
+    SameReport i (harts i order).world s.world.world × ((h : ℕ) → h < harts_in i.all.schedule → owed_of h s ≡ 0)
 
 -- ---- of each part: a hart's core and clock, its domains' states, frames and sets, what switches took, and what is nobody's;
 -- of the second level's sets of the kernel's colour nothing is said

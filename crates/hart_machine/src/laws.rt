@@ -1,6 +1,11 @@
 //! Laws over the definitions, each the contract of a function that does nothing: a caller
 //! that calls it may rely on the law.
-ghost use Rattle.hart_machine.specs.Laws.{RanLaw, ThroughLaw, SlotBySlotLaw, SwitchOrderLaw, CountedOffLaw, PartsLaw, AnyOrderPartsLaw, DrawnPartsLaw, HartsCommuteLaw, HartsPassLaw};
+ghost use Rattle.hart_machine.specs.Laws.{OneSlotLaw, RanLaw, ThroughLaw, SlotBySlotLaw, SlotsLaw, SwitchOrderLaw, CountedOffLaw, PartsLaw, AnyOrderPartsLaw, DrawnPartsLaw, HartsCommuteLaw, HartsPassLaw};
+
+/// Events of a hart alone that end its next slot are its switch and the slot's own.
+pub fn one_slot()
+    ensures one_slot { OneSlotLaw }
+{}
 
 /// By the least clock, slot by slot: the report is that of the run event by event, and the
 /// switches come by their clocks, and then by their harts' numbers.
@@ -8,6 +13,7 @@ pub fn slots()
     ensures ran { RanLaw }
     ensures through { ThroughLaw }
     ensures same { SlotBySlotLaw }
+    ensures slots { SlotsLaw }
     ensures order { SwitchOrderLaw }
 {}
 

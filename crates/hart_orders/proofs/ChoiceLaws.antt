@@ -1,5 +1,5 @@
 -- What is seen after the order of a choice, whatever the choice.
-use Rattle.std.proofs.Common.{◌≡◌, ◌∙◌, ℕ, ◌<◌, ◌≤◌, Bool, true, false, List, ap, refl, subst, arith}
+use Rattle.std.proofs.Common.{◌≡◌, ◌∙◌, ℕ, ◌<◌, Bool, true, false, List, ap, refl, subst, arith}
 use Rattle.sched_table.specs.Schedule.{harts_in}
 use Rattle.image_check.specs.Image.{Image}
 use Rattle.image_check.specs.Laws.{Runnable}

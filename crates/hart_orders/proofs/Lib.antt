@@ -3,6 +3,4 @@ pub mod ColdCores
 pub mod Chosen
 pub mod Left
 pub mod RunThrough
-pub mod SwitchCosts
-pub mod Uses
 pub mod ChoiceLaws

@@ -1,4 +1,3 @@
 pub mod Cold
 pub mod Order
 pub mod Laws
-pub mod SameUse

@@ -1,7 +1,6 @@
 //! Laws of the orders in which harts have their events, each the contract of a function
 //! that does nothing: a caller that calls it may rely on the law.
 ghost use Rattle.hart_orders.specs.Laws.{EachChosenLaw, HasLeftLaw, SomebodyLaw, LeastLaw, HartsLaw, ThroughLaw, ChoiceLaw, ChoicePadLaw, ChoiceLargestLaw, OneHartLaw};
-ghost use Rattle.hart_orders.specs.SameUse.{SameUseLaw};
 
 /// Each event is of the hart that is chosen then: one that has slots left, while there
 /// is one; by clocks, none of the others has a lower clock, nor the same and a lower
@@ -27,10 +26,4 @@ pub fn sections()
     ensures used { ChoicePadLaw }
     ensures largest { ChoiceLargestLaw }
     ensures one { OneHartLaw }
-{}
-
-/// What an entry's switches took goes by how many switches its hart has had, and by whose
-/// boot was the first of all.
-pub fn switches()
-    ensures same_use { SameUseLaw }
 {}

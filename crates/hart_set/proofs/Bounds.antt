@@ -1,17 +1,15 @@
 -- No number of the code's harts is too large.
-use Rattle.std.proofs.Common.{◌≡◌, ◌≢◌, ◌∙◌, ℕ, zero, suc, ◌+◌, ◌*◌, ◌^◌, ◌<◌, ◌≤◌, Bool, true, false, List, Some, length, ◌⊎◌, inl, inr, refl, sym, subst, arith}
+use Rattle.std.proofs.Common.{◌≡◌, ◌≢◌, ◌∙◌, ℕ, ◌+◌, ◌^◌, ◌<◌, ◌≤◌, Bool, true, false, List, Some, length, ◌⊎◌, inl, inr, refl, sym, subst, arith}
 use Rattle.std.specs.Prelude.{slice_get, if◌then◌else◌}
 use Rattle.std.proofs.Math.ListN.{set}
 use Rattle.std.proofs.lemmas.Option.{slice_get_within, slice_get-get_or}
-use Rattle.sched_table.specs.Schedule.{IsSchedule, entry_in, entry_of_slot, last_end, on_hart, harts_in}
+use Rattle.sched_table.specs.Schedule.{entry_in, harts_in}
 use Rattle.sched_table.proofs.Harts.{hart_there_law, domain_hart_law}
 use Rattle.image_check.specs.Image.{Image}
 use Rattle.image_check.specs.Laws.{Runnable}
 use Rattle.kernel_call.specs.declared.domain.Domain.{Domain}
 use Rattle.kernel_call.specs.Models.{CountsUpTo}
-use Rattle.world_view.specs.Machine.{World, clock_of}
-use Rattle.world_view.specs.Harts.{Harts, image_on, start_on, end_on, hart_of_domain, progress_of, slots_of}
-use Rattle.world_view.proofs.harts.Events.{IsHart}
+use Rattle.world_view.specs.Harts.{Harts, hart_of_domain, progress_of, slots_of}
 use Rattle.world_view.proofs.harts.Runs.{Running}
 use Rattle.domain_step.proofs.Counts.{counts_later}
 use Rattle.domain_step.specs.Usage.{CountedUpTo}

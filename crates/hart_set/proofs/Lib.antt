@@ -11,5 +11,5 @@ pub mod Loaded
 pub mod RunSeen
 pub mod Standing
 pub mod RunOn
-pub mod FirstEvent
-pub mod InTurn
+pub mod First
+pub mod BySlots

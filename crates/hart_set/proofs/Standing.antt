@@ -4,6 +4,7 @@ use Rattle.std.specs.Prelude.{slice_get}
 use Rattle.std.proofs.lemmas.Option.{slice_get_cases}
 use Rattle.image_record.specs.Record.{Raw}
 use Rattle.sched_table.specs.Schedule.{harts_in}
+use Rattle.world_view.specs.Machine.{clock_of}
 use Rattle.world_view.specs.Harts.{slots_of}
 use Rattle.hart_orders.specs.declared.hart.Hart.{Hart}
 use Rattle.hart_set.specs.declared.set.State.{State}
@@ -19,3 +20,6 @@ module _ (v : Raw × State) (order : List ℕ) (stands : StandsAfter v order) (h
 
   pub its_slots : (k : ℕ) → AtHart v.1 h (λ x. k ≡ x.slots) → k ≡ slots_of h (harts_after v order)
   its_slots k is = let x = found in is x.0 x.1 ∙ (stands.each_hart h x.0 x.1).slots
+
+  pub its_clock : (k : ℕ) → AtHart v.1 h (λ x. k ≡ x.clock) → k ≡ clock_of h (harts_after v order).world
+  its_clock k is = let x = found in is x.0 x.1 ∙ (stands.each_hart h x.0 x.1).machine.time

@@ -5,4 +5,3 @@ pub mod Slots
 pub mod Models
 pub mod Choosers
 pub mod Run
-pub mod InTurn

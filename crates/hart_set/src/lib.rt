@@ -3,10 +3,10 @@
 //! keeps that it stands for the definition of the image's harts after some order of
 //! events.
 //!
-//! And an image's harts for so many slots of each. What is seen then is what follows
-//! where the hart whose event is next is that of the least clock, or one that a seed draws;
-//! by clocks the harts are run one after the other, since that costs less and leads to the
-//! same.
+//! And an image's harts for so many slots of each, where the hart whose event is next is that
+//! of the least clock, or one that a seed draws. By clocks a hart has its next slot whole as
+//! soon as its switch comes: so the switches come in the order of the clocks, and what is seen
+//! is what the order event by event leads to.
 #![tactic(auto)]
 
 mod choice;

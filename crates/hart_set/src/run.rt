@@ -4,10 +4,10 @@ ghost use Rattle.image_check.specs.Image.{image_from};
 ghost use Rattle.sched_table.specs.Schedule.{harts_in};
 ghost use Rattle.hart_set.specs.Models.{image_of as image_of_set, StandsAfter};
 ghost use Rattle.hart_orders.specs.Order as spec;
-ghost use Rattle.hart_set.specs.Run.{HasRun};
-ghost use Rattle.hart_set.specs.InTurn.{RunInTurn};
+ghost use Rattle.hart_machine.specs.Laws.{slot_by_slot};
+ghost use Rattle.hart_set.specs.Run.{StandsAt, HasRun};
 
-use crate::choice::drawn;
+use crate::choice::{drawn, first};
 use crate::set::HartSet;
 use domain_view::View;
 use hart_orders::Choice;
@@ -50,30 +50,22 @@ fn cycles_before(image: &Checked, slot: u32) -> u64
     cycles
 }
 
-// Runs a hart for so many slots, those before it having had theirs.
-fn run_hart(harts: &mut HartSet<'_>, h: u8, slots: u32)
-    requires few { slots ≤ 65536 }
-    requires hart { h < harts_in (image_of_set harts.old).all.schedule }
-    requires before { RunInTurn harts.old slots h 0 }
-    ensures image { harts.new.0 ≡ harts.old.0 }
-    ensures run { RunInTurn harts.new slots h slots }
-{
-    for _ in 0..slots {
-        harts.run_slot(h);
-    }
-}
-
-// Runs harts before their first event, one after the other, until each has had so many
-// slots: what is seen of them then is what the order of their clocks leads to.
+// Runs harts before their first event until each has had so many slots. The one with the
+// least clock has its next slot whole: its switch comes when it would event by event, and
+// the events of its slot touch nothing that another hart's go by.
 fn run_by_slots(harts: &mut HartSet<'_>, slots: u32)
     requires few { slots ≤ 65536 }
     requires first { StandsAfter harts.old [] }
     ensures image { harts.new.0 ≡ harts.old.0 }
-    ensures run { HasRun harts.new Choice.LeastClock slots }
+    ensures slots { StandsAt harts.new (slot_by_slot (image_of_set harts.new) slots).world }
 {
     harts.image().runnable();
-    for h in 0..harts.harts() {
-        run_hart(harts, h, slots);
+    let most = cycles_before(harts.image(), slots);
+    for _ in 0..most {
+        let Some(h) = first(harts, slots) else {
+            return;
+        };
+        harts.run_slot(h);
     }
 }
 
@@ -105,7 +97,14 @@ fn run_all(harts: &mut HartSet<'_>, choice: Choice, slots: u32)
     harts.image().runnable();
     match choice {
         Choice::LeastClock => run_by_slots(harts, slots),
-        Choice::Drawn(seed) => run_drawn(harts, seed, slots),
+        // Of one hart every order of events is the same.
+        Choice::Drawn(seed) => {
+            if harts.harts() == 1 {
+                run_by_slots(harts, slots);
+            } else {
+                run_drawn(harts, seed, slots);
+            }
+        }
     }
 }
 

@@ -290,7 +290,7 @@ impl<'a> HartSet<'a> {
     }
 
     /// Frees it.
-    pub(crate) fn discard(self) {
+    pub fn discard(self) {
         let State {
             memory,
             l2,

@@ -2,30 +2,44 @@ use Rattle.std.proofs.Common.{◌∙◌, sym, subst}
 use Rattle.image_record.specs.Record.{Raw}
 use Rattle.image_check.specs.Image.{image_from}
 use Rattle.image_check.specs.Laws.{Runnable}
-use Rattle.hart_set.specs.Models.{StandsAfter}
+use Rattle.world_view.specs.Harts.{IsOnOneHart}
+use Rattle.hart_set.specs.Models.{image_of, StandsAfter}
 use Rattle.hart_orders.specs.declared.choice.Choice.{Choice}
 use Rattle.hart_orders.specs.declared.choice.Choice.TheVariants.{Drawn}
 use Rattle.hart_orders.specs.Order.{order_of}
 use Rattle.hart_set.specs.Run.{HasRun}
-use Rattle.hart_set.proofs.RunSeen.{run_so}
+use Rattle.hart_set.proofs.RunSeen.{run_so, run_slots, run_one}
 use Rattle.hart_set.proofs.run.run_all.Goals as goal
 
-pub run_by_slots-requires : goal.run_by_slots-requires
-run_by_slots-requires c = record { few = c.requires.few; first = c.requires.first }
-
-pub run_drawn-requires : goal.run_drawn-requires
-run_drawn-requires c = record { few = c.requires.few; first = c.requires.first }
-
 pub returns-in-LeastClock : goal.returns-in-LeastClock
-returns-in-LeastClock c = record {
-  image = c.run_by_slots.ensures.image;
-  run =
-      subst (λ (choice : Choice). HasRun c.run_by_slots.new.harts choice c.args.slots)
-      (sym c.in-LeastClock.is) c.run_by_slots.ensures.run;
-}
+returns-in-LeastClock c =
+    let v = c.run_by_slots.new.harts in
+    let image = sym c.run_by_slots.ensures.image in
+    let accepted = subst (λ (x : Raw). Runnable (image_from x)) (c.image.ensures.value ∙ image) c.runnable.ensures.runnable in
+    record {
+      image = c.run_by_slots.ensures.image;
+      run =
+          subst (λ (choice : Choice). HasRun v choice c.args.slots) (sym c.in-LeastClock.is)
+          (run_slots v c.args.slots accepted c.run_by_slots.ensures.slots);
+    }
 
-pub returns-in-Drawn : goal.returns-in-Drawn
-returns-in-Drawn c =
+pub returns-then-harts-eq1 : goal.returns-then-harts-eq1
+returns-then-harts-eq1 c =
+    let v = c.run_by_slots-then-harts-eq1.new.harts in
+    let n = c.args.slots in
+    let image = sym c.run_by_slots-then-harts-eq1.ensures.image in
+    let accepted = subst (λ (x : Raw). Runnable (image_from x)) (c.image.ensures.value ∙ image) c.runnable.ensures.runnable in
+    let one : IsOnOneHart (image_of v) =
+    subst (λ (x : Raw). IsOnOneHart (image_from x)) image (sym c.harts.ensures.value ∙ c.if-harts-eq1.true) in
+    record {
+      image = c.run_by_slots-then-harts-eq1.ensures.image;
+      run =
+          subst (λ (choice : Choice). HasRun v choice n) (sym c.in-Drawn.is)
+          (run_one v (Drawn c.in-Drawn.seed) n one (run_slots v n accepted c.run_by_slots-then-harts-eq1.ensures.slots));
+    }
+
+pub returns-else-harts-eq1 : goal.returns-else-harts-eq1
+returns-else-harts-eq1 c =
     let v = c.run_drawn.new.harts in
     let n = c.args.slots in
     let drawn = Drawn c.in-Drawn.seed in

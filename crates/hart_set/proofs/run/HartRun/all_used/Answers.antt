@@ -9,4 +9,4 @@ returns-clause-each c =
     let r = c.self.inside in
     let used = c.all_used.result.now in
     subst (λ (v : Run). IsUsed used (world_of v).used) c.self.view_is
-    (used_of_run r.harts r.choice r.slots c.self.invariant used c.all_used.ensures.all c.all_used.ensures.each)
+    (used_of_run r.harts r.choice r.slots c.self.invariant used c.all_used.ensures.each)
