@@ -4,7 +4,9 @@ ghost use Rattle.std.specs.Prelude.{None};
 use std::alloc::Global;
 use std::test::Fail;
 use tp_base::Memory;
-use tp_io::{Failed, MemSink, MemSource, ReadError, Sink, SureSource, read_within, write_all_of};
+use tp_io::{
+    Failed, MemSink, MemSource, ReadError, Sink, Source, SureSource, read_within, write_all_of,
+};
 
 // How many of `size` bytes are read, 64 a call, where this call fails.
 fn read(alloc: Global, size: usize, call: u64, most: u16) -> Result<Option<usize>, Memory> {
@@ -76,6 +78,31 @@ fn a_sink_fails_at_its_listed_call_or_without_room(rt: HostRuntime) -> Result<()
         let found = sent(rt.alloc(), call, room)?;
         assert_eq!(rt; found, (wanted == 14, wanted), "call {call} in {room}");
     }
+    Ok(())
+}
+
+// The most that the program reads of a source, which is one byte more than an image may
+// have; no report is as long.
+const LONGEST: usize = 1_048_577;
+
+// How many bytes a source and a sink in memory give and take in one call, of as many as
+// there may be. Each holds a `CallCount`, whose list has a number for each byte; no call
+// here has the number.
+fn moved_in_one_call(alloc: Global) -> Result<(Option<usize>, Option<usize>), Memory> {
+    let bytes = vec![in alloc; 7; LONGEST]?;
+    let failing = vec![in alloc; 9; LONGEST]?;
+    let mut buffer = vec![in alloc; 0; LONGEST]?;
+    let mut source = MemSource::new(alloc, &bytes, usize::MAX, &failing)?;
+    let mut sink = MemSink::new(alloc, LONGEST, usize::MAX, &failing)?;
+    Ok((source.read(&mut buffer).ok(), sink.write(&bytes).ok()))
+}
+
+#[test]
+fn objects_in_memory_have_room_for_the_longest_texts(rt: HostRuntime) -> Result<(), Memory> {
+    assert_eq!(rt;
+        moved_in_one_call(rt.alloc())?,
+        (Some(LONGEST), Some(LONGEST))
+    );
     Ok(())
 }
 

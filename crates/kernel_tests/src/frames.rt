@@ -52,8 +52,8 @@ fn each_share_has_the_frames_of_its_colours(rt: HostRuntime) {
     );
     have(
         &rt,
-        two_pools(rt.alloc(), 4096, 64, &[63, 5, 17], &[]),
-        (192, Some(5), Some(4095)),
+        two_pools(rt.alloc(), 16384, 64, &[63, 5, 17], &[]),
+        (768, Some(5), Some(16383)),
         (0, None, None),
     );
 }
