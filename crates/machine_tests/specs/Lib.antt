@@ -1,3 +1,4 @@
+mod Corners
 mod Due
 mod Example
 mod HartExample
