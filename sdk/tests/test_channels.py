@@ -194,13 +194,16 @@ def test_the_picture_of_a_channel(guard: str, tmp_path: Path) -> None:
     folders = (OFF[guard].parent / "run", OFF[guard])
     ended = matrix(*folders, "--domain", "spy", "-o", tmp_path / "a.svg")
     assert (ended.returncode, ended.stderr) == (0, "")
-    most = "(3.00 bits would tell all 8 apart)"
+    most = "(3.00 would tell all 8 apart)"
     assert ended.stdout == (
-        f"{folders[0]}: all guards on: 0.00 bits {most}\n{folders[1]}: {guard} off: 3.00 bits {most}\n"
+        f"{folders[0]}: all guards on: entropy 0.00, capacity 0.00 bits {most}\n"
+        f"{folders[1]}: {guard} off: entropy 3.00, capacity 3.00 bits {most}\n"
     )
     for picture in (tmp_path / "a.svg", REPOSITORY / "docs" / "pictures" / f"channel-{guard}.svg"):
         text = picture.read_text()
-        assert text.count(">all guards on: 0.00 bits<") == text.count(f">{guard} off: 3.00 bits<") == 1
+        assert text.count(">all guards on<") == text.count(f">{guard} off<") == 1
+        assert text.count(">entropy 0.00, capacity 0.00 bits<") == 1
+        assert text.count(">entropy 3.00, capacity 3.00 bits<") == 1
         assert all(text.count(f">{name}<") == 1 for name in SECRETS)
         assert len(text) < 60_000
     assert (tmp_path / "a.svg").read_text() == stored_picture(f"channel-{guard}")
@@ -220,13 +223,16 @@ def test_each_measurement_is_written_and_the_scale_is_one(tmp_path: Path) -> Non
 def test_a_side_alone_and_sides_of_another_measure(tmp_path: Path) -> None:
     picture = tmp_path / "a.png"
     ended = matrix(OFF["pad"], "--domain", "spy", "--measure", "values", "-o", picture)
-    assert ended.stdout.startswith(f"{OFF['pad']}: pad off: 3.00 bits") and ended.stdout.count("\n") == 1
+    assert (
+        ended.stdout.startswith(f"{OFF['pad']}: pad off: entropy 3.00, capacity 3.00 bits")
+        and ended.stdout.count("\n") == 1
+    )
     assert picture.read_bytes().startswith(b"\x89PNG")
 
 
 def test_a_domain_without_readings(tmp_path: Path) -> None:
     ended = matrix(LINES / "run", OFF["flush"], "--domain", "sender", "-o", tmp_path / "a.svg")
-    assert ended.returncode == 0 and ended.stdout.count(": 0.00 bits ") == 2
+    assert ended.returncode == 0 and ended.stdout.count(": entropy 0.00, capacity 0.00 bits ") == 2
 
 
 def test_reports_that_are_of_no_secrets(tmp_path: Path) -> None:

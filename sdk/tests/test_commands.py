@@ -18,6 +18,7 @@ LIBRARIES = {
     "tp-explain": "json",
     "tp-plot": "matplotlib",
     "tp-counts": "json",
+    "tp-sweep": "json",
     "tp-verify": "json",
 }
 TOOLS = sorted(LIBRARIES)

@@ -13,8 +13,8 @@ from elf_files import Elf, Load, R, X
 
 EXAMPLES = REPOSITORY / "examples"
 WITHOUT = Path(__file__).parent / "tools_without.py"
-LIBRARIES = "matplotlib,numpy,elftools,jsonschema,tqdm"
-TOOLS = ("tp-counts", "tp-explain", "tp-image", "tp-plot", "tp-report", "tp-run", "tp-verify")
+LIBRARIES = "matplotlib,numpy,elftools,jsonschema,tqdm,distributed"
+TOOLS = ("tp-counts", "tp-explain", "tp-image", "tp-plot", "tp-report", "tp-run", "tp-sweep", "tp-verify")
 
 
 def run_without(libraries: str, tool: str, *words: str | Path) -> subprocess.CompletedProcess[str]:

@@ -119,7 +119,7 @@ def test_many_sides_and_long_names(tmp_path: Path) -> None:
         for report in folder.glob("*.report"):
             report.rename(folder / f"a-secret-whose-name-is-longer-than-others-{report.name}")
     text = drawn(tmp_path, "matrix", *folders, "--domain", "spy")
-    assert is_readable(text) and text.count("all guards on: 0.00 bits") == 5
+    assert is_readable(text) and text.count(">entropy 0.00, capacity 0.00 bits<") == 5
 
 
 @pytest.mark.parametrize(

@@ -143,7 +143,7 @@ def test_readings_without_a_difference(tmp_path: Path, form: str) -> None:
     assert (ended.returncode, ended.stderr) == (0, "")
     assert ended.stdout == (
         "spy: no difference: its sections are equal to the byte in 4 reports "
-        "(0.00 bits; 2.00 bits would tell all 4 apart)\n"
+        "(entropy 0.00, capacity 0.00 bits; 2.00 would tell all 4 apart)\n"
     )
     assert picture.read_bytes().startswith(SVG) and picture.stat().st_size > 10_000
 
@@ -161,7 +161,7 @@ def test_readings_with_a_difference(tmp_path: Path) -> None:
     picture = tmp_path / "spy.png"
     ended = run_tool("tp-plot", "readings", folder, "--domain", "spy", "-o", picture)
     assert ended.stdout == (
-        "spy: 2 different sections in 2 reports: 1.00 bits (1.00 bits would tell all 2 apart); "
+        "spy: 2 different sections in 2 reports: entropy 1.00, capacity 1.00 bits (1.00 would tell all 2 apart); "
         "measurement 1 alone tells most, 1.00\n"
     )
     assert picture.read_bytes().startswith(PNG)

@@ -56,7 +56,9 @@ def test_the_spys_picture_is_one_row(beside: Path, compiler: str, tmp_path: Path
     words = ("readings", beside, "--domain", "victim", "--domain", "spy", "-o", picture)
     ended = run_tool("tp-plot", *words)
     assert (ended.returncode, ended.stderr) == (0, "")
-    assert ended.stdout.startswith("victim: 6 different sections in 6 reports: 2.58 bits")
+    assert ended.stdout.startswith(
+        "victim: 6 different sections in 6 reports: entropy 2.58, capacity 2.58 bits"
+    )
     assert "\nspy: no difference: its sections are equal to the byte in 6 reports" in ended.stdout
     text = picture.read_text()
     assert "00000000 and 5 more" in text and "one row for all 6 reports: every difference is 0" in text

@@ -25,6 +25,7 @@ READS: dict[str, tuple[tuple[str, ...], tuple[str, ...]]] = {
     "tp-plot": (("memory",), ("-o", "a.svg")),
     "tp-report": ((), ()),
     "tp-run": ((), ("--slots", "1")),
+    "tp-sweep": ((), ("--slots", "1")),
     "tp-verify": ((str(SKELETON),), ("--domain", "mine")),
 }
 # A program that writes its process's number, and takes its time.

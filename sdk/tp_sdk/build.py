@@ -50,7 +50,7 @@ def domain_of(description: Description, name: str, asked: str) -> DomainDescript
 
 def load_programs(description: Description) -> list[Loaded]:
     """The programs of its domains, with the stacks that it asks for."""
-    return [_load(it, description.arch) for it in description.domains]
+    return [load(it, description.arch) for it in description.domains]
 
 
 def build_text(
@@ -59,15 +59,11 @@ def build_text(
     """The image's text, of programs that are loaded now where none are given. Where there is a program
     `tp`, it has accepted it."""
     loaded = load_programs(description) if programs is None else programs
-    domains = [_domain(it, its) for it, its in zip(description.domains, loaded)]
-    numbers = {domain.name: number for number, domain in enumerate(domains)}
-    for entry in description.schedule:
-        if isinstance(entry.domain, str) and entry.domain not in numbers:
-            meant = did_you_mean(entry.domain, numbers) or f": {', '.join(numbers)}"
-            raise Fault(f"{entry.place}: there is no domain '{entry.domain}'{meant}")
+    domains = [image_domain(it, its) for it, its in zip(description.domains, loaded)]
+    numbers = numbers_of(description)
 
     def image(pads: list[int]) -> str:
-        entries = [_entry(it, numbers, pad) for it, pad in zip(description.schedule, pads)]
+        entries = [image_entry(it, numbers, pad) for it, pad in zip(description.schedule, pads)]
         return Image(description.version, description.machine, domains, entries).to_toml()
 
     pads = [0] * len(description.schedule)
@@ -75,7 +71,9 @@ def build_text(
         if entry.pad is None:
             if program is None:
                 raise Missing(f"{entry.place}: no pad, which the program alone can tell, and it is not there")
-            pads = _bounds(description, image(pads), program)
+            bound = program.run(["bound"], image(pads))
+            _accepted(description, image(pads), bound)
+            pads = bounds_in(bound.text, len(pads), program)
             break
     text = image(pads)
     if program is not None:
@@ -83,12 +81,20 @@ def build_text(
     return text
 
 
-def _bounds(description: Description, text: str, program: Program) -> list[int]:
-    """The bound on the switch after each entry's slot."""
-    ended = program.run(["bound"], text)
-    _accepted(description, text, ended)
-    bound = parse_bound(ended.text)
-    bounds = [None if bound is None else bound.of_entry(it) for it in range(len(description.schedule))]
+def numbers_of(description: Description) -> dict[str, int]:
+    """The domains' places by their names; each entry of the schedule names one of them."""
+    numbers = {domain.name: number for number, domain in enumerate(description.domains)}
+    for entry in description.schedule:
+        if isinstance(entry.domain, str) and entry.domain not in numbers:
+            meant = did_you_mean(entry.domain, numbers) or f": {', '.join(numbers)}"
+            raise Fault(f"{entry.place}: there is no domain '{entry.domain}'{meant}")
+    return numbers
+
+
+def bounds_in(text: str, entries: int, program: Program) -> list[int]:
+    """The bound on the switch after each entry's slot, of what the program wrote."""
+    bound = parse_bound(text)
+    bounds = [None if bound is None else bound.of_entry(it) for it in range(entries)]
     if any(it is None for it in bounds):
         raise program.other()
     return [it for it in bounds if it is not None]
@@ -97,18 +103,25 @@ def _bounds(description: Description, text: str, program: Program) -> list[int]:
 def _accepted(description: Description, text: str, ended: Ended) -> None:
     if ended.code == 0:
         return
-    if not ended.text.startswith("refused "):
+    if not is_refusal(ended):
         raise Fault(f"{description.file}: the program ended with {ended.code}: {ended.text.strip()}")
     told = explain(text.encode(), str(description.file), Refusal.parse(ended.text))
     raise Fault(f"{description.place(told.path)}: the image is refused: {told.reason()}")
 
 
-def _entry(entry: EntryDescription, numbers: dict[str, int], pad: int) -> ImageEntry:
+def is_refusal(ended: Ended) -> bool:
+    """The program has refused the image."""
+    return ended.code != 0 and ended.text.startswith("refused ")
+
+
+def image_entry(entry: EntryDescription, numbers: dict[str, int], pad: int) -> ImageEntry:
+    """An entry as the image has it; with no pad of its own it has this one."""
     domain = entry.domain if isinstance(entry.domain, int) else numbers[entry.domain]
     return ImageEntry(domain, entry.length, pad if entry.pad is None else entry.pad, entry.hart)
 
 
-def _load(it: DomainDescription, arch: str) -> Loaded:
+def load(it: DomainDescription, arch: str) -> Loaded:
+    """A domain's program for a machine with these instructions, with the stack that the domain asks for."""
     loaded = it.program if isinstance(it.program, Loaded) else load_program(it.program, it.stack, arch)
     if it.stack is not None:
         others = [segment for segment in loaded.segments if segment.name != STACK]
@@ -116,7 +129,8 @@ def _load(it: DomainDescription, arch: str) -> Loaded:
     return loaded
 
 
-def _domain(it: DomainDescription, loaded: Loaded) -> ImageDomain:
+def image_domain(it: DomainDescription, loaded: Loaded) -> ImageDomain:
+    """A domain as the image has it: what the description puts at symbols is put into the program."""
     _refuse_clashes(loaded, it.place)
     for where, data in it.words.items():
         _put(loaded, where, data)

@@ -11,6 +11,7 @@ from typing import TYPE_CHECKING
 from tp_sdk.faults import Fault, MissingLibrary, read_bytes
 from tp_sdk.instructions import RV32I, advice, are_products, beyond, lacking
 from tp_sdk.keys import KEY_ROWS, PAGE, RIGHTS, Within
+from tp_sdk.spelling import did_you_mean
 from tp_sdk.symbols import SectionPart, Symbol, Symbols
 
 # (loaded as an ELF file is: an image has none)
@@ -75,7 +76,8 @@ class Loaded:
         """A symbol by its name."""
         found = self.symbols.by_name.get(name)
         if found is None:
-            raise Fault(f"{self.file}: there is no symbol '{name}'")
+            meant = did_you_mean(name, self.symbols.by_name)
+            raise Fault(f"{self.file}: there is no symbol '{name}'{meant}")
         return found
 
 

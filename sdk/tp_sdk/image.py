@@ -65,11 +65,16 @@ class Image:
 
     def to_toml(self) -> str:
         """The text."""
-        told = self.machine if self.version is None else {"version": self.version} | self.machine
-        machine = "".join(f"{key} = {_value(value)}\n" for key, value in told.items())
+        machine = machine_text(self.version, self.machine)
         return "\n".join(
             [machine, *(it.to_toml() for it in self.domains), *(it.to_toml() for it in self.schedule)]
         )
+
+
+def machine_text(version: int | None, machine: dict[str, Any]) -> str:
+    """An image's first lines: its version, where it is told, and its machine's keys."""
+    told = machine if version is None else {"version": version} | machine
+    return "".join(f"{key} = {_value(value)}\n" for key, value in told.items())
 
 
 def _value(value: Any) -> str:

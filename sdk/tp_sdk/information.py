@@ -3,7 +3,7 @@
 from __future__ import annotations
 
 from collections import Counter
-from collections.abc import Hashable, Sequence
+from collections.abc import Collection, Hashable, Sequence
 from dataclasses import dataclass
 from itertools import zip_longest
 from math import log2
@@ -20,6 +20,11 @@ class Measured:
     best_reading: int | None
 
     @property
+    def capacity(self) -> float:
+        """The most that the sections can tell of a neighbour, however likely each is."""
+        return log2(self.sections)
+
+    @property
     def most(self) -> float:
         """What would tell each neighbour from each other one."""
         return log2(self.neighbours)
@@ -31,6 +36,12 @@ def entropy(values: Sequence[Hashable]) -> float:
     total = len(values)
     # (+ 0.0 makes no negative zero of one value alone)
     return -sum(count / total * log2(count / total) for count in Counter(values).values()) + 0.0
+
+
+def capacity(values: Collection[Hashable]) -> float:
+    """The most that a value of these can tell of the neighbour, however likely each neighbour is: a run is
+    determined by the neighbour, so it is log2 of how many different values there are."""
+    return log2(len(set(values)))
 
 
 def measure(sections: Sequence[str], readings: Sequence[Sequence[int]]) -> Measured:

@@ -29,18 +29,23 @@ _ON_WHITE, _ON_DARK = ("#d6e6f4", "#7fb2d9", "#2f6fad"), ("#1f3a55", "#3f78ab", 
 
 @dataclass(frozen=True)
 class Side:
-    """The measurements beside each secret, all with the same guard off, or with none, and how many
-    bits of the secret the readings tell that they are made of."""
+    """The measurements beside each secret, all with the same guard off, or with none; and of the readings
+    that they are made of the entropy and the capacity, in bits of the secret."""
 
     off: str | None
     rows: Sequence[tuple[int, ...]]
-    bits: float
+    entropy: float
+    capacity: float
 
     @property
-    def title(self) -> str:
-        """Which guard is off, and what that tells."""
-        guards = "all guards on" if self.off is None else f"{self.off} off"
-        return f"{guards}: {self.bits:.2f} bits"
+    def guards(self) -> str:
+        """Which guard is off."""
+        return "all guards on" if self.off is None else f"{self.off} off"
+
+    @property
+    def bits(self) -> str:
+        """What that tells."""
+        return f"entropy {self.entropy:.2f}, capacity {self.capacity:.2f} bits"
 
     @property
     def width(self) -> int:
@@ -81,7 +86,7 @@ def draw_channel(file: Path, domain: str, secrets: Sequence[str], sides: Sequenc
     columns = columns_of(sides, int(room / _LEAST_CELL))
     numbers = sorted({it for side in sides for row in _sums(side, columns) for it in row if it is not None})
     below = -(-len(sides) // beside)
-    height = 0.45 + below * (0.6 + 0.22 * max(len(secrets), 4))
+    height = 0.45 + below * (0.75 + 0.22 * max(len(secrets), 4))
     figure = pyplot.figure(figsize=(WIDTH, height), layout="constrained")
     figure.suptitle(
         title(f"cycles that {domain} measured beside each of {len(secrets)} secrets{columns.told}"),
@@ -118,7 +123,7 @@ def _draw(axes: Axes, side: Side, columns: Columns, numbers: Sequence[int], room
         _write(axes, rows, lambda cycles: str(to_hex(colours(places[cycles]))))
     telling = [place for place, group in enumerate(columns.groups) if side.tells(group)]
     _mark(axes, telling)
-    axes.set_title(side.title, fontsize=PLAIN)
+    axes.set_title(f"{side.guards}\n{side.bits}", fontsize=PLAIN)
     axes.xaxis.set_major_locator(MaxNLocator(nbins=10, integer=True))
     axes.xaxis.set_major_formatter(FuncFormatter(lambda place, _: _name(columns, place)))
     axes.set_xlabel("measurement" + (" (a bar above: it differs)" if telling else ""))

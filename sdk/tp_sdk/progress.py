@@ -2,6 +2,7 @@
 
 from __future__ import annotations
 
+import sys
 from collections.abc import Iterator
 from contextlib import contextmanager
 from typing import Any
@@ -35,5 +36,6 @@ def progress(tool: str) -> Iterator[Progress]:
     except ImportError:
         yield Progress()
         return
-    with tqdm(desc=tool, bar_format=_WORDS, disable=None, leave=False, delay=SHOWN_FROM) as bar:
+    is_shown = sys.stderr.isatty()
+    with tqdm(desc=tool, bar_format=_WORDS, disable=not is_shown, leave=False, delay=SHOWN_FROM) as bar:
         yield Progress(bar)

@@ -143,7 +143,7 @@ def _section(lines: list[str], at: int) -> Section:
     rest = {line.split()[0]: line.split()[1:] for line in lines[1:] if not line.startswith("thread ")}
     readings, replies = rest["readings"], rest["replies"]
     kept = [int(it) for it in _kept(readings)]
-    if not all(0 <= it <= MOST_READING for it in kept):
+    if kept and not 0 <= min(kept) <= max(kept) <= MOST_READING:
         raise ValueError("no reading")
     status = " ".join(rest["status"])
     if _STATUS.fullmatch(status) is None:

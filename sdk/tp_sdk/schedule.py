@@ -90,6 +90,27 @@ def slots_of(entries: Sequence[Entry], count: int, hart: int = 0) -> Iterator[Sl
         start = end + it.pad
 
 
+@dataclass(frozen=True)
+class Time:
+    """How long a hart's first slots take: the cycles from 0 to the last one's end, and those in slots alone."""
+
+    cycles: int
+    in_slots: int
+
+
+def time_of(entries: Sequence[Entry], count: int, hart: int = 0) -> Time:
+    """The time of a hart's first slots; the pad after the last one is no part of it."""
+    places = places_on(entries, hart)
+    rounds, rest = divmod(count, len(places))
+    taken = [(entries[place], rounds + (number < rest)) for number, place in enumerate(places)]
+    in_slots = sum(it.length * times for it, times in taken)
+    pads = sum(it.pad * times for it, times in taken)
+    # (a pad comes before each slot: the last entry's, and then those of the slots before the last one)
+    last = entries[places[(count - 1) % len(places)]].pad if count else 0
+    boot = entries[places[-1]].pad if count else 0
+    return Time(in_slots + boot + pads - last, in_slots)
+
+
 def slots_of_each(entries: Sequence[Entry], report: Report) -> int:
     """How many slots each hart had by a report of these entries: all have as many."""
     return report.slots // harts_in(entries)

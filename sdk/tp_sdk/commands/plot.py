@@ -13,16 +13,18 @@ from typing import TYPE_CHECKING
 from tp_sdk.bounds import EntryBound, bounds_of
 from tp_sdk.faults import EXIT_CODES, Fault, Missing, read_text
 from tp_sdk.images import read_image
-from tp_sdk.information import Measured, entropy, measure
+from tp_sdk.information import Measured, capacity, entropy, measure
 from tp_sdk.keys import VERSION, version_of
 from tp_sdk.measurements import MEASURES, by_pads, by_schedule, measurements_of, rows_of
 from tp_sdk.memory import memory_of
+from tp_sdk.plot_tables import write_channel, write_chart, write_memory, write_readings, write_timeline
 from tp_sdk.program import Program
 from tp_sdk.progress import progress
 from tp_sdk.refusals import Image
 from tp_sdk.replay import Replay, replay
 from tp_sdk.report import Report, Section, parse_report
 from tp_sdk.schedule import Entry, domain_names, entries_of, slots_of_each
+from tp_sdk.sweeping.charts import UNITS, chart_of
 from tp_sdk.words import slots_from
 
 # (each picture's library is loaded as the picture is drawn: words need none)
@@ -44,9 +46,13 @@ _HELP = """Draws reports of `tp run`, `tp harts` and `tp ablate`, as NAME.svg or
   tp-plot matrix FOLDER OTHER --domain spy -o spy.svg
       what one domain measured beside each secret, in FOLDER/*.report and in OTHER/*.report of the
       same names, on one scale, with the bits that it tells: all guards on, and one off, say; where
-      there are too many measurements for a picture, those that differ
+      there are too many measurements for a picture, those that differ. Bits are told as the entropy,
+      where each neighbour or secret is equally likely, and the capacity, however likely each is
   tp-plot memory mine.toml -o mine.svg
       whose each frame and each set of the second level is, and what is shared
+  tp-plot sweep out.csv -o out.svg
+      what tp-sweep wrote: the capacity, or another column (--of), by one or two of the varied
+      things (--key), as lines or as a map, a side for each observer
 
 An image may be a description, too (tp-image). Pictures are 830 pixels wide, as a page of text is."""
 
@@ -56,13 +62,15 @@ def main(words: list[str]) -> int:
     parser = ArgumentParser(
         "tp-plot", description=_HELP, epilog=EXIT_CODES, formatter_class=RawDescriptionHelpFormatter
     )
-    commands = parser.add_subparsers(required=True, metavar="timeline|readings|matrix|memory")
+    commands = parser.add_subparsers(required=True, metavar="timeline|readings|matrix|memory|sweep")
     timeline = commands.add_parser("timeline", help="slots, what was done in them, pads and switches")
     readings = commands.add_parser("readings", help="what a domain measured in many reports")
     matrix = commands.add_parser("matrix", help="secrets by measurements, on one scale")
     memory = commands.add_parser("memory", help="whose colours, frames, pages and sets are whose")
+    sweep = commands.add_parser("sweep", help="a column of what tp-sweep wrote, by what was varied")
     _add_timeline(timeline)
     _add_readings(readings)
+    _add_sweep(sweep)
     matrix.add_argument("folders", type=Path, nargs="+", metavar="folder")
     matrix.add_argument("--domain", required=True, help="its name")
     matrix.set_defaults(draw=_matrix)
@@ -71,11 +79,17 @@ def main(words: list[str]) -> int:
     measures = "; ".join(f"{name}: {what}" for name, what in MEASURES.items())
     for command in (readings, matrix):
         command.add_argument("--measure", choices=MEASURES, default="pairs", help=measures)
-    for command in (timeline, readings, matrix, memory):
+    for command in (timeline, readings, matrix, memory, sweep):
         command.add_argument(
             "-o", dest="out", type=Path, required=True, metavar="PICTURE", help="NAME.svg or NAME.png"
         )
         command.add_argument("--dark", action="store_true", help="light on dark, for a dark page")
+        command.add_argument(
+            "--csv",
+            type=Path,
+            metavar="FILE",
+            help="writes the picture's numbers, too, as a table; -: as output",
+        )
     asked = parser.parse_args(words)
     if asked.out.suffix not in _SUFFIXES:
         raise Fault(f"{asked.out}: a picture is {' or '.join('NAME' + suffix for suffix in _SUFFIXES)}")
@@ -114,6 +128,40 @@ def _add_readings(command: ArgumentParser) -> None:
         help="the name of the report that others are compared with, else the first",
     )
     command.set_defaults(draw=_readings)
+
+
+def _add_sweep(command: ArgumentParser) -> None:
+    command.add_argument("table", type=Path, help="what tp-sweep wrote: NAME.csv, NAME.jsonl, NAME.parquet")
+    command.add_argument(
+        "--of", choices=UNITS, default="capacity", help="the column that is drawn (%(default)s)"
+    )
+    command.add_argument(
+        "--key",
+        action="append",
+        default=[],
+        metavar="NAME",
+        help="what is varied to the right; a second one: a line for each of its values, or upwards; else what "
+        "has several values",
+    )
+    command.add_argument(
+        "--where", action="append", default=[], metavar="NAME=VALUE", help="of the rows with this value alone"
+    )
+    command.add_argument(
+        "--observer", action="append", default=[], metavar="DOMAIN", help="this one's side; else each one's"
+    )
+    command.add_argument(
+        "--as", dest="form", choices=("lines", "map"), help="else a map of more than 8 lines"
+    )
+    command.set_defaults(draw=_sweep)
+
+
+def _sweep(asked: Namespace) -> None:
+    from tp_sdk.plot_sweep import draw_sweep
+
+    chart = chart_of(asked.table, asked.of, asked.key, asked.where, asked.observer)
+    draw_sweep(asked.out, chart, asked.form)
+    if asked.csv is not None:
+        write_chart(asked.csv, chart)
 
 
 def _read(file: Path) -> Report:
@@ -158,6 +206,8 @@ def _timeline(asked: Namespace) -> None:
             for file, report in _reports_of_image(image, asked.reports)
         ]
     draw_timeline(asked.out, image.names, image.entries, strips, asked.slots, _bounds(image))
+    if asked.csv is not None:
+        write_timeline(asked.csv, image.names, image.entries, strips, asked.slots)
 
 
 def _reports_of_image(image: _Scheduled, files: Sequence[Path]) -> list[tuple[Path, Report]]:
@@ -189,7 +239,10 @@ def _memory(asked: Namespace) -> None:
     from tp_sdk.plot_memory import draw_memory
 
     image = _read_image(asked.image, Program.if_any())
-    draw_memory(asked.out, image.names, memory_of(image.image, str(asked.image)))
+    memory = memory_of(image.image, str(asked.image))
+    draw_memory(asked.out, image.names, memory)
+    if asked.csv is not None:
+        write_memory(asked.csv, image.names, memory)
 
 
 def _readings(asked: Namespace) -> None:
@@ -207,6 +260,8 @@ def _readings(asked: Namespace) -> None:
         print(panel.verdict)
     draw = draw_matrix if asked.form == "matrix" else draw_histogram
     draw(asked.out, panels)
+    if asked.csv is not None:
+        write_readings(asked.csv, panels)
 
 
 def _reports_of(folder: Path) -> list[tuple[Path, Report]]:
@@ -229,8 +284,11 @@ def _matrix(asked: Namespace) -> None:
         _refuse_other_names(first, secrets, folder, [file.stem for file, _ in reports[folder]])
     sides = {folder: _side(of, asked.domain, asked.measure) for folder, of in reports.items()}
     for folder, side in sides.items():
-        print(f"{folder}: {side.title} ({log2(len(secrets)):.2f} bits would tell all {len(secrets)} apart)")
+        most = f"{log2(len(secrets)):.2f} would tell all {len(secrets)} apart"
+        print(f"{folder}: {side.guards}: {side.bits} ({most})")
     draw_channel(asked.out, asked.domain, secrets, list(sides.values()))
+    if asked.csv is not None:
+        write_channel(asked.csv, asked.domain, secrets, list(sides.values()))
 
 
 def _refuse_other_names(one: Path, ones: Sequence[str], other: Path, others: Sequence[str]) -> None:
@@ -250,7 +308,8 @@ def _side(reports: Sequence[tuple[Path, Report]], domain: str, measure_by: str) 
     sections = [_section(file, report, domain) for file, report in reports]
     # (all are drawn: that a slot ended within a measurement may be what tells)
     rows = [measurements_of(section, measure_by, by_pads([])).cycles for section in sections]
-    return Side(of_first.off, rows, entropy([section.readings for section in sections]))
+    readings = [section.readings for section in sections]
+    return Side(of_first.off, rows, entropy(readings), capacity(readings))
 
 
 def _guards(report: Report) -> str:
@@ -285,14 +344,15 @@ def _panel(
 def verdict(domain: str, measured: Measured) -> str:
     """What the sections tell, in a sentence."""
     many = measured.neighbours
-    most = f"{measured.most:.2f} bits would tell all {many} apart"
+    most = f"{measured.most:.2f} would tell all {many} apart"
     if measured.sections == 1:
         return (
             f"{domain}: no difference: its sections are equal to the byte in {many} reports "
-            f"(0.00 bits; {most})"
+            f"(entropy 0.00, capacity 0.00 bits; {most})"
         )
     told = (
-        f"{domain}: {measured.sections} different sections in {many} reports: {measured.of_section:.2f} bits"
+        f"{domain}: {measured.sections} different sections in {many} reports: "
+        f"entropy {measured.of_section:.2f}, capacity {measured.capacity:.2f} bits"
     )
     if measured.best_reading is None:
         alone = "no measurement alone tells any"

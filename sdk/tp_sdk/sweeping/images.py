@@ -1,0 +1,164 @@
+"""The images of a sweep: each is put together from texts, of which most are those of the image before."""
+
+from __future__ import annotations
+
+import tomllib
+from dataclasses import dataclass, replace
+from functools import cached_property
+from pathlib import Path
+from typing import Any
+
+from tp_sdk.build import bounds_in, image_domain, image_entry, load, numbers_of
+from tp_sdk.description import Description, DomainDescription, EntryDescription
+from tp_sdk.elf import Loaded, Segment
+from tp_sdk.faults import Fault
+from tp_sdk.image import machine_text
+from tp_sdk.instructions import arch_of
+from tp_sdk.keys import PAGE
+from tp_sdk.program import Ended, Program
+from tp_sdk.schedule import Entry
+from tp_sdk.sweeping.places import Variant
+from tp_sdk.sweeping.plan import Compiled
+from tp_sdk.symbols import Symbols
+
+NOISE = "noise"  # the name of the domain that is put beside
+
+
+class Refused(Exception):
+    """The program takes no such image: what it answered, and the image."""
+
+    def __init__(self, text: str, ended: Ended) -> None:
+        super().__init__(ended.text)
+        self.text, self.ended = text, ended
+
+
+@dataclass(frozen=True)
+class Built:
+    """An image's text, and its schedule."""
+
+    text: str
+    entries: list[Entry]
+
+
+class Images:
+    """Builds the images of one description's variants. A source is compiled once for each stack and each kind
+    of machine; a domain that isn't varied is written once; a bound is asked for once for each machine."""
+
+    def __init__(
+        self, description: Description, programs: dict[Compiled, Loaded], program: Program | None
+    ) -> None:
+        self._description, self._programs, self._program = description, programs, program
+        self._own_texts: dict[tuple[int, str], str] = {}
+        self._bounds: dict[str, list[int]] = {}
+        self._last_machine: tuple[dict[str, Any], str] | None = None
+        self._noise: dict[int, Loaded] = {}
+
+    def load(self, variant: Variant) -> None:
+        """Has the programs of a variant loaded, so that no other one with such a stack and machine needs files."""
+        arch = arch_of(variant.machine)
+        for number, it in enumerate(variant.domains):
+            compiled = (number, it.stack, arch)
+            if compiled not in self._programs:
+                loaded = load(it, arch)
+                # (what debuggers look for is not needed, and it is large)
+                symbols = Symbols(b"", loaded.symbols.symbols, loaded.symbols.sections)
+                self._programs[compiled] = replace(loaded, symbols=symbols)
+
+    def build(self, variant: Variant) -> Built:
+        """The image of a variant."""
+        arch = arch_of(variant.machine)
+        domains, schedule, texts = variant.domains, variant.schedule, []
+        for number, it in enumerate(domains):
+            texts.append(self._domain_text(number, it, arch))
+        if variant.noise is not None:
+            noise = self._noise_domain(variant, arch)
+            domains, schedule = [*domains, noise], [*schedule, _noise_entry(schedule, noise)]
+            texts.append(image_domain(noise, _copy(self._drawn(variant.noise))).to_toml())
+        machine = self._machine_text(variant.machine)
+        numbers = self._numbers | {NOISE: len(self._description.domains)}
+        calls = [
+            domains[_number(it, numbers)].calls if _is_one(it, numbers, domains) else None for it in schedule
+        ]
+
+        def image(pads: list[int]) -> Built:
+            entries = [image_entry(it, numbers, pad) for it, pad in zip(schedule, pads)]
+            text = "\n".join([machine, *texts, *(it.to_toml() for it in entries)])
+            return Built(text, [Entry(it.domain, it.length, it.pad, it.hart) for it in entries])
+
+        pads = [0] * len(schedule)
+        if any(it.pad is None for it in schedule) and self._program is not None:
+            known = f"{machine} {calls}"
+            if known not in self._bounds:
+                self._bounds[known] = self._asked_bounds(image(pads).text, len(pads), self._program)
+            pads = self._bounds[known]
+        return image(pads)
+
+    def _machine_text(self, machine: dict[str, Any]) -> str:
+        """The machine's lines: most often those of the run before."""
+        if self._last_machine is None or self._last_machine[0] != machine:
+            self._last_machine = (machine, machine_text(self._description.version, machine))
+        return self._last_machine[1]
+
+    @cached_property
+    def _numbers(self) -> dict[str, int]:
+        return numbers_of(self._description)
+
+    def _domain_text(self, number: int, it: DomainDescription, arch: str) -> str:
+        is_own = it is self._description.domains[number]
+        if is_own and (number, arch) in self._own_texts:
+            return self._own_texts[number, arch]
+        loaded = self._programs[number, it.stack, arch]
+        text = image_domain(it, _copy(loaded)).to_toml()
+        if is_own:
+            self._own_texts[number, arch] = text
+        return text
+
+    def _asked_bounds(self, text: str, entries: int, program: Program) -> list[int]:
+        ended = program.run(["bound"], text)
+        if ended.code != 0:
+            raise Refused(text, ended)
+        return bounds_in(ended.text, entries, program)
+
+    def _noise_domain(self, variant: Variant, arch: str) -> DomainDescription:
+        """The domain whose program is drawn: it has the least colour that no other has."""
+        taken = {colour for it in variant.domains for colour in it.colours}
+        colours = variant.machine["l2"]["sets"] * variant.machine["line"] // PAGE
+        free = next((it for it in range(1, colours) if it not in taken), None)
+        if free is None:
+            raise Fault(f"{self._description.file}: no colour of the machine is free for the noise")
+        return DomainDescription(NOISE, NOISE, Path(NOISE), [free], None, [], [], [], None, {})
+
+    def _drawn(self, seed: int) -> Loaded:
+        """The first program that `tp gen` draws."""
+        if seed not in self._noise:
+            assert self._program is not None
+            ended = self._program.run(["gen", "--seed", str(seed)], "")
+            if ended.code != 0:
+                raise self._program.other()
+            drawn = tomllib.loads(ended.text)["domain"][0]
+            segments = [
+                Segment(
+                    f"{NOISE}{number}", it["page"], it["pages"], it["rights"], bytearray.fromhex(it["hex"])
+                )
+                for number, it in enumerate(drawn["segment"])
+            ]
+            self._noise[seed] = Loaded(Path(NOISE), drawn["entry"], segments, Symbols())
+        return self._noise[seed]
+
+
+def _copy(loaded: Loaded) -> Loaded:
+    """A program into which values may be put."""
+    return replace(loaded, segments=[replace(it, data=bytearray(it.data)) for it in loaded.segments])
+
+
+def _noise_entry(schedule: list[EntryDescription], noise: DomainDescription) -> EntryDescription:
+    """A slot as long as the last entry's, on its hart."""
+    return replace(schedule[-1], domain=noise.name)
+
+
+def _number(entry: EntryDescription, numbers: dict[str, int]) -> int:
+    return entry.domain if isinstance(entry.domain, int) else numbers[entry.domain]
+
+
+def _is_one(entry: EntryDescription, numbers: dict[str, int], domains: list[DomainDescription]) -> bool:
+    return 0 <= _number(entry, numbers) < len(domains)

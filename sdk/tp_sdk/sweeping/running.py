@@ -1,0 +1,121 @@
+"""What a sweep keeps of each run, and how a run is done: where there are workers, in one of them."""
+
+from __future__ import annotations
+
+import hashlib
+from collections.abc import Sequence
+from dataclasses import dataclass
+from time import perf_counter
+
+from tp_sdk.build import is_refusal
+from tp_sdk.explain import explain
+from tp_sdk.faults import Fault, Missing
+from tp_sdk.program import Ended, Program
+from tp_sdk.refusals import Refusal
+from tp_sdk.report import Section, parse_report
+from tp_sdk.schedule import hart_for, time_of
+from tp_sdk.sweeping.images import Built, Images, Refused
+from tp_sdk.sweeping.places import Variant
+from tp_sdk.sweeping.plan import Plan, Run
+
+_USAGE, _TOO_LONG = 2, 6  # exit codes of the program: no such words for the image; the image is too long
+
+
+@dataclass(frozen=True)
+class Seen:
+    """What one observer came to: its section in short, so that equal ones are equal; the cycles of its hart's
+    slots, from 0 to the last one's end and in slots alone."""
+
+    section: bytes
+    status: str
+    retired: int
+    cycles: int
+    slot_cycles: int
+
+
+@dataclass(frozen=True)
+class Ran:
+    """What is kept of a run: of each observer, and of the switches; or why there is none."""
+
+    run: Run
+    seen: tuple[Seen, ...] = ()
+    pad: int = 0
+    pad_used: int = 0
+    refused: str = ""
+
+
+@dataclass(frozen=True)
+class Chunk:
+    """What a worker does at once, and how long it took."""
+
+    ran: list[Ran]
+    seconds: float
+
+
+class Runner:
+    """Does the runs of a plan, one after the other."""
+
+    def __init__(self, plan: Plan, program: Program) -> None:
+        self._plan, self._program = plan, program
+        self._images = Images(plan.description, plan.programs, program)
+
+    def chunk(self, runs: Sequence[Run]) -> Chunk:
+        """Does some runs."""
+        start = perf_counter()
+        return Chunk([self.ran(run) for run in runs], perf_counter() - start)
+
+    def ran(self, run: Run) -> Ran:
+        """Does a run; an image that is refused is no fault of the sweep."""
+        variant = self._plan.variant(run)
+        try:
+            built = self._images.build(variant)
+            ended = self._program.run(_words(variant, self._plan.slots), built.text)
+            if ended.code != 0:
+                raise Refused(built.text, ended)
+        except Refused as refused:
+            return Ran(run, refused=self._why(refused, variant))
+        except Missing:
+            raise
+        except Fault as fault:
+            return Ran(run, refused=str(fault))
+        return self._summary(run, built, ended)
+
+    def _summary(self, run: Run, built: Built, ended: Ended) -> Ran:
+        report = parse_report(ended.text, str(self._plan.description.file))
+        seen = []
+        for observer in self._plan.observers:
+            section = report.section(observer)
+            time = time_of(built.entries, self._plan.slots, hart_for(built.entries, section.number))
+            seen.append(
+                Seen(
+                    _in_short(section), section.status.split()[0], section.retired, time.cycles, time.in_slots
+                )
+            )
+        used = max(it.used for it in report.switches)
+        return Ran(run, tuple(seen), max(it.pad for it in report.switches), used)
+
+    def _why(self, refused: Refused, variant: Variant) -> str:
+        ended = refused.ended
+        if is_refusal(ended):
+            file = str(self._plan.description.file)
+            return explain(refused.text.encode(), file, Refusal.parse(ended.text)).reason()
+        if ended.code == _USAGE and variant.off is not None:
+            return f"with several harts no guard can be off, and {variant.off} is"
+        if ended.code == _TOO_LONG:
+            return ended.text.strip()
+        raise Fault(
+            f"{self._plan.description.file}: the program tp ended with {ended.code}: {ended.text.strip()}"
+        )
+
+
+def _words(variant: Variant, slots: int) -> list[str]:
+    """The program's words."""
+    if variant.off is not None:
+        return ["ablate", "--off", variant.off, "--slots", str(slots)]
+    if variant.harts is not None:
+        return ["harts", "--slots", str(slots), "--seed", str(variant.harts)]
+    return ["run", "--slots", str(slots)]
+
+
+def _in_short(section: Section) -> bytes:
+    return hashlib.blake2b(section.text.encode(), digest_size=16).digest()
