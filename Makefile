@@ -15,7 +15,7 @@ ZSH := $(BASE)/share/zsh/site-functions
 DOC := $(BASE)/share/doc/kizhombai
 TEXTS := front/out
 TOOLS := $(notdir $(wildcard sdk/tp-*))
-COPY := tar -cf - --exclude=__pycache__ --exclude=out --exclude=sdk/tests --exclude=sdk/check
+COPY := tar -cf - --exclude=__pycache__ --exclude=out --exclude=sdk/tests --exclude=sdk/check --exclude=sdk/build --exclude=*.egg-info
 SHELL := /bin/bash
 .SHELLFLAGS := -o pipefail -c
 
@@ -41,7 +41,7 @@ install: is_proved texts
 	install -m 644 $(TEXTS)/man1/*.1 $(MAN)
 	install -m 644 $(TEXTS)/tp $(BASH)/tp
 	install -m 644 $(TEXTS)/_tp $(ZSH)/_tp
-	$(COPY) README.md CHANGELOG.md docs/*.md docs/pictures examples | tar -xf - -C $(DOC)
+	$(COPY) README.md CHANGELOG.md docs/*.md docs/lessons docs/pictures examples | tar -xf - -C $(DOC)
 
 uninstall:
 	rm -rf $(LIB) $(DOC)

@@ -16,8 +16,8 @@ from tp_sdk.program import REPOSITORY, VARIABLE, Program
 
 # What stands for the top of the repository in a page.
 _PATH = re.compile(r"\bPATH/")
-_FILE = re.compile(r"`((?:\w+/)?[\w-]+\.(?:c|h|rs|toml))`")
-_LANGUAGES_OF_FILES = ("c", "toml", "rust")
+_FILE = re.compile(r"`((?:\w+/)?[\w-]+\.(?:c|h|py|rs|toml))`")
+_LANGUAGES_OF_FILES = ("c", "python", "rust", "toml")
 # What a page tells and no test does: to install what is wanted, to prove the program.
 _NOT_RUN = ("sudo ", "rustup ", "./tp --prove")
 # What the program says of itself where it isn't proved yet.

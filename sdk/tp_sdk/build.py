@@ -3,13 +3,14 @@
 from __future__ import annotations
 
 import re
+from pathlib import Path
 
 from tp_sdk.bounds import parse_bound
 from tp_sdk.compiling import load_program
 from tp_sdk.description import Description, DomainDescription, EntryDescription
 from tp_sdk.elf import Loaded, Segment
-from tp_sdk.explain import explain
-from tp_sdk.faults import Fault, Missing
+from tp_sdk.explain import Explanation, explain
+from tp_sdk.faults import Fault, Missing, Refused
 from tp_sdk.image import Image, ImageDomain, ImageEntry
 from tp_sdk.keys import KEY_ROWS, PAGE, Array
 from tp_sdk.program import Ended, Program
@@ -72,12 +73,12 @@ def build_text(
             if program is None:
                 raise Missing(f"{entry.place}: no pad, which the program alone can tell, and it is not there")
             bound = program.run(["bound"], image(pads))
-            _accepted(description, image(pads), bound)
+            refuse_described(description, image(pads), bound)
             pads = bounds_in(bound.text, len(pads), program)
             break
     text = image(pads)
     if program is not None:
-        _accepted(description, text, program.run(["check"], text))
+        refuse_described(description, text, program.run(["check"], text))
     return text
 
 
@@ -100,13 +101,30 @@ def bounds_in(text: str, entries: int, program: Program) -> list[int]:
     return [it for it in bounds if it is not None]
 
 
-def _accepted(description: Description, text: str, ended: Ended) -> None:
+def refuse_broken(text: str, file: Path, ended: Ended, name: str | None = None) -> None:
+    """Faults an image's text, by how the program ended on it. The first rule that it breaks is told with its
+    place in the file or, where nobody wrote the text, with the name of it."""
+    told = _broken(text, file, ended)
+    if told is not None:
+        where = name or f"{file}:{told.line}:{told.column}"
+        raise Refused(f"{where}: the image is refused: {told.reason()}", told.refusal)
+
+
+def refuse_described(description: Description, text: str, ended: Ended) -> None:
+    """Faults the image of a description so: what is told is the place in the description."""
+    told = _broken(text, description.file, ended)
+    if told is not None:
+        where = description.place(told.path)
+        raise Refused(f"{where}: the image is refused: {told.reason()}", told.refusal)
+
+
+def _broken(text: str, file: Path, ended: Ended) -> Explanation | None:
+    """What is broken of an image, by how the program ended."""
     if ended.code == 0:
-        return
+        return None
     if not is_refusal(ended):
-        raise Fault(f"{description.file}: the program ended with {ended.code}: {ended.text.strip()}")
-    told = explain(text.encode(), str(description.file), Refusal.parse(ended.text))
-    raise Fault(f"{description.place(told.path)}: the image is refused: {told.reason()}")
+        raise Fault(f"{file}: the program ended with {ended.code}: {ended.text.strip()}")
+    return explain(text.encode(), str(file), Refusal.parse(ended.text))
 
 
 def is_refusal(ended: Ended) -> bool:

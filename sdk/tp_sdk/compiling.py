@@ -11,10 +11,10 @@ from pathlib import Path
 
 from tp_sdk.elf import Loaded, load_elf
 from tp_sdk.faults import Fault, Missing, read_bytes
+from tp_sdk.folders import C
 from tp_sdk.instructions import RV32I
 from tp_sdk.keys import PAGE
 
-C = Path(__file__).resolve().parents[1] / "c"
 LINK_SCRIPT = C / "link.ld"
 CROSS = "riscv64-unknown-elf-"
 SOURCES = (".c", ".s", ".S")

@@ -17,6 +17,7 @@ from tp_sdk.program import Program
 from tp_sdk.refusals import Image
 from tp_sdk.replay import has_ended, number, written
 from tp_sdk.report import Section, parse_report
+from tp_sdk.running import with_end, words_for
 from tp_sdk.schedule import entries_of, hart_for, places_on
 
 # Switches alone flush.
@@ -105,9 +106,9 @@ class _Runs:
         ]
         keys = {key: {cost: costs[cost] for cost in self._image[key]} for key in self._costly}
         image = self._image | keys | {"schedule": schedule}
-        words = ["alone", "--domain", str(self._domain), "--slots", str(slots)]
+        words = [*words_for(alone=self._domain), "--slots", str(slots)]
         text = written(self._program, words, image, self._file)
-        return parse_report(f"{text}end\n", self._file).sections[0]
+        return parse_report(with_end(text), self._file).sections[0]
 
     def least_lengths(self, costs: dict[str, int], reached: dict[int, Section]) -> dict[int, int]:
         """The least lengths with which each slot ends as it does in the image."""

@@ -134,13 +134,15 @@ class _Text:
             raise Fault(f"{file}: no TOML: {error}") from None
 
     def place(self, path: toml_places.Path) -> str:
-        for length in range(len(path), -1, -1):
-            if path[:length] in self.told:
-                return self.told[path[:length]]
-        return self.place_of(self.places.nearest(path))
+        return self._told(path) or self.place_of(self.places.nearest(path))
 
     def place_of_key(self, path: toml_places.Path) -> str:
-        return self.place_of(self.places.keys[path])
+        return self._told(path) or self.place_of(self.places.keys[path])
+
+    def _told(self, path: toml_places.Path) -> str | None:
+        """What is told of a place that nobody wrote."""
+        lengths = range(len(path), -1, -1)
+        return next((self.told[path[:length]] for length in lengths if path[:length] in self.told), None)
 
     def place_of(self, span: toml_places.Span) -> str:
         at = self.places.position(span.start)

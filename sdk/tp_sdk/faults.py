@@ -38,6 +38,18 @@ class Missing(Fault):
     code = SOMETHING_IS_MISSING
 
 
+class Refused(Fault):
+    """The program refuses an image; `refusal` is its line, of the first rule that is broken, as
+    `refused K7 at 1 found 0 wanted 0`."""
+
+    def __init__(self, told: str, refusal: str) -> None:
+        super().__init__(told, refusal)
+        self.refusal = refusal
+
+    def __str__(self) -> str:
+        return str(self.args[0])
+
+
 class Interrupted(Fault):
     """The user wants no more of it."""
 

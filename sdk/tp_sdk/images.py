@@ -10,23 +10,27 @@ from tp_sdk.description import read_description
 from tp_sdk.faults import Fault, read_text
 from tp_sdk.program import Program
 from tp_sdk.refusals import Image
-from tp_sdk.toml_places import read_with_places
 
 
 def read_image(file: Path, program: Program | None) -> Image:
     """An image's values; of a description those of the image that it makes, whose pads the program tells
     where they are left out."""
     text = read_text(file)
-    try:
-        image, _ = read_with_places(text)
-    except tomllib.TOMLDecodeError as error:
-        raise Fault(f"{file}: no TOML: {error}") from None
-    if not _is_described(image):
+    image = values_of(text, file)
+    if not is_described(image):
         return image
     return tomllib.loads(build_text(read_description(file, text), program))
 
 
-def _is_described(image: Image) -> bool:
+def values_of(text: str, file: Path) -> Image:
+    """The values of an image's text, or of a description's."""
+    try:
+        return tomllib.loads(text)
+    except tomllib.TOMLDecodeError as error:
+        raise Fault(f"{file}: no TOML: {error}") from None
+
+
+def is_described(image: Image) -> bool:
     """Something in it stands for what an image has there."""
     domains, entries = (_tables(image, key) for key in ("domain", "schedule"))
     return (

@@ -8,7 +8,7 @@ from dataclasses import dataclass
 from pathlib import Path
 from typing import TYPE_CHECKING, Any
 
-from tp_sdk.plots import PLAIN, SMALL, WIDTH, Colour, ink, is_dark, paper, pyplot, save, short, title
+from tp_sdk.plots import PLAIN, SMALL, WIDTH, Figure, Colour, ink, is_dark, paper, save, short, title
 
 # (after that one, which tells where the library is missing)
 import numpy
@@ -87,7 +87,7 @@ def draw_channel(file: Path, domain: str, secrets: Sequence[str], sides: Sequenc
     numbers = sorted({it for side in sides for row in _sums(side, columns) for it in row if it is not None})
     below = -(-len(sides) // beside)
     height = 0.45 + below * (0.75 + 0.22 * max(len(secrets), 4))
-    figure = pyplot.figure(figsize=(WIDTH, height), layout="constrained")
+    figure = Figure(figsize=(WIDTH, height), layout="constrained")
     figure.suptitle(
         title(f"cycles that {domain} measured beside each of {len(secrets)} secrets{columns.told}"),
         x=0.01,

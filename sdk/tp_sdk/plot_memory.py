@@ -7,7 +7,7 @@ from pathlib import Path
 from typing import TYPE_CHECKING, Any
 
 from tp_sdk.memory import Frame, Memory, Use
-from tp_sdk.plots import PLAIN, SMALL, WIDTH, colour_of, grey, ink, is_dark, mixed, paper, pyplot, save
+from tp_sdk.plots import PLAIN, SMALL, WIDTH, Figure, colour_of, grey, ink, is_dark, mixed, paper, save
 
 # (after that one, which tells where the library is missing)
 import numpy
@@ -27,7 +27,7 @@ def draw_memory(file: Path, names: Sequence[str], memory: Memory) -> None:
     the second level."""
     legend, rows = _legend(names, memory), len(memory.ranges())
     heights = [0.2 + 0.17 * -(-len(legend) // _COLUMNS), 0.6 + 0.36 * rows, 0.6 + 0.24 * rows]
-    figure = pyplot.figure(figsize=(WIDTH, sum(heights)), layout="constrained")
+    figure = Figure(figsize=(WIDTH, sum(heights)), layout="constrained")
     above, frames, sets = figure.subplots(3, 1, height_ratios=heights)
     above.set_axis_off()
     above.legend(handles=legend, loc="upper left", ncols=_COLUMNS, frameon=False, borderaxespad=0)

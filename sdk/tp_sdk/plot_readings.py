@@ -13,12 +13,12 @@ from tp_sdk.plots import (
     PLAIN,
     SMALL,
     WIDTH,
+    Figure,
     colour_of,
     grey,
     is_dark,
     is_wide,
     paper,
-    pyplot,
     save,
     short,
     tell_cycles,
@@ -33,7 +33,6 @@ from matplotlib.ticker import FuncFormatter, MaxNLocator
 
 if TYPE_CHECKING:
     from matplotlib.axes import Axes
-    from matplotlib.figure import Figure
 
 _OVER_END, _ALONE = 0.28, 0.08  # of the texts' colour
 _NONE = "no readings to draw"
@@ -240,7 +239,7 @@ def draw_histogram(file: Path, panels: Sequence[Panel]) -> None:
 def _places(heights: Sequence[float], panels: int) -> tuple[Figure, list[Axes]]:
     """A picture, and places of these heights, one below the other, with room for words."""
     words = 0.5 * len(heights) + 0.25 * panels
-    figure = pyplot.figure(figsize=(WIDTH, sum(heights) + words), layout="constrained")
+    figure = Figure(figsize=(WIDTH, sum(heights) + words), layout="constrained")
     places = figure.subplots(len(heights), 1, squeeze=False, height_ratios=heights)
     return figure, list(places[:, 0])
 

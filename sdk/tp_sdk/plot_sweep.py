@@ -10,12 +10,12 @@ from tp_sdk.plots import (
     PLAIN,
     SMALL,
     WIDTH,
+    Figure,
     colour_of,
     grey,
     is_dark,
     is_wide,
     paper,
-    pyplot,
     save,
     short,
     title,
@@ -46,7 +46,7 @@ def draw_sweep(file: Path, chart: Chart, form: str | None) -> None:
     beside = min(len(chart.sides), _BESIDE)
     below = -(-len(chart.sides) // beside)
     height = 0.24 * max(len(chart.values(1)), 6) + 0.6 if is_map else 2.6
-    figure = pyplot.figure(figsize=(WIDTH, 0.5 + below * height), layout="constrained")
+    figure = Figure(figsize=(WIDTH, 0.5 + below * height), layout="constrained")
     figure.suptitle(title(chart.title), x=0.01, ha="left", fontsize=PLAIN)
     grid = figure.subplots(below, beside, sharex=True, sharey=True, squeeze=False)
     places = list(grid.flat)

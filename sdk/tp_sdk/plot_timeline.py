@@ -9,7 +9,7 @@ from typing import TYPE_CHECKING
 
 from tp_sdk.bounds import EntryBound
 from tp_sdk.keys import LENGTH
-from tp_sdk.plots import PLAIN, SMALL, WIDTH, colour_of, grey, ink, paper, pyplot, save, title
+from tp_sdk.plots import PLAIN, SMALL, WIDTH, Figure, colour_of, grey, ink, paper, save, title
 from tp_sdk.replay import Did, Replay, number
 from tp_sdk.report import Report, Section
 from tp_sdk.schedule import Entry, Slot, hart_for, harts_in, places_on, slots_of, slots_of_each
@@ -115,7 +115,7 @@ def draw_timeline(
     heights += [0.3 + 0.25 * len(of_domains)] if of_domains else []
     # (what stands above and below them in words)
     words = 0.5 * (len(heights) - 1) + 0.15 * (len(names) + 1) * len(strips)
-    figure = pyplot.figure(figsize=(WIDTH, sum(heights) + words), layout="constrained")
+    figure = Figure(figsize=(WIDTH, sum(heights) + words), layout="constrained")
     above, *places = figure.subplots(len(heights), 1, height_ratios=heights)
     above.set_axis_off()
     above.legend(handles=legend, loc="upper left", ncols=_COLUMNS, frameon=False, borderaxespad=0)

@@ -12,17 +12,16 @@ from tp_sdk.faults import Fault, MissingLibrary
 
 try:
     import matplotlib
-
-    matplotlib.use("Agg")
-    from matplotlib import pyplot as pyplot
     from matplotlib.colors import to_rgb
+
+    # (of no window or notebook: who draws with pyplot besides has that as it was)
+    from matplotlib.figure import Figure as Figure
     from matplotlib.ticker import LogLocator, NullFormatter, StrMethodFormatter
 except ImportError:
     raise MissingLibrary("matplotlib", "matplotlib") from None
 
 if TYPE_CHECKING:
     from matplotlib.axis import Axis
-    from matplotlib.figure import Figure
 
 Colour = str | tuple[float, ...]
 
@@ -132,4 +131,3 @@ def save(figure: Figure, file: Path) -> None:
     # (of a picture that is too large)
     except ValueError as error:
         raise Fault(f"{file}: {error}") from None
-    pyplot.close(figure)

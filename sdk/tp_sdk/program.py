@@ -10,9 +10,10 @@ from pathlib import Path
 
 from tp_sdk import library
 from tp_sdk.faults import Missing
+from tp_sdk.folders import IS_INSTALLED
+from tp_sdk.folders import REPOSITORY as REPOSITORY
 from tp_sdk.progress import SHOWN_FROM, Progress
 
-REPOSITORY = Path(__file__).resolve().parents[2]
 VARIABLE = "TP"
 
 
@@ -42,6 +43,8 @@ class Program:
         if shared:
             return cls(path.absolute(), shared, progress or Progress())
         if not path.is_file() or shutil.which(str(path.absolute())) is None:
+            if IS_INSTALLED and not named:
+                raise Missing(f"there is no program: the variable {VARIABLE} names one, and it is not set")
             where = f"{VARIABLE}={path}" if named else str(path.relative_to(REPOSITORY))
             raise Missing(f"there is no program at {where}: './tp --prove' proves and builds it")
         return cls(path.absolute(), progress=progress or Progress())

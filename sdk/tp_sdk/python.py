@@ -13,10 +13,17 @@ _HAS = """import sys, importlib.util
 sys.exit(sys.version_info < (3, 11) or importlib.util.find_spec(sys.argv[1]) is None)"""
 
 
+def _is_script_beside() -> bool:
+    """The process runs a tool of this folder, which another Python can run as well: what pip has installed
+    is for its own Python, and so is another's program that calls this package."""
+    script = os.path.realpath(sys.argv[0] or os.curdir)
+    return os.path.dirname(script) == os.path.dirname(os.path.dirname(os.path.realpath(__file__)))
+
+
 def use_debians(module: str, read: Optional[bytes] = None) -> None:
     """Runs the process's command from its start on with Debian's own Python, where that is another
     one and has the module; else returns. What was read of standard input can be read again."""
-    if sys.executable == DEBIANS:
+    if sys.executable == DEBIANS or not _is_script_beside():
         return
     try:
         has = subprocess.run(

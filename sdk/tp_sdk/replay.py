@@ -14,12 +14,13 @@ from collections.abc import Sequence
 from dataclasses import dataclass
 from typing import Any
 
-from tp_sdk.faults import Fault
+from tp_sdk import running
 from tp_sdk.keys import LENGTH, limits_of
 from tp_sdk.program import Program
 from tp_sdk.refusals import Image
 from tp_sdk.report import Report, Section, parse_report
 from tp_sdk.schedule import entries_of, harts_in, places_on, slots_of_each
+from tp_sdk.toml_places import BARE_KEY
 
 
 @dataclass(frozen=True)
@@ -134,20 +135,22 @@ def _run(program: Program, image: Image, file: str, slots: int) -> Report:
 
 def written(program: Program, words: list[str], image: Image, file: str) -> str:
     """What the program writes of an image that it accepts."""
-    ended = program.run(words, image_text(image))
-    if ended.code != 0:
-        raise Fault(f"{file}: the program ended with {ended.code}: {ended.text.strip()}")
-    return ended.text
+    return running.written(program, words, image_text(image), file)
 
 
 def image_text(image: Image) -> str:
-    """An image's text."""
-    return "".join(f"{key} = {_toml(value)}\n" for key, value in image.items())
+    """The text of an image's values, or of a description's."""
+    return "".join(f"{_key(key)} = {_toml(value)}\n" for key, value in image.items())
 
 
 def _toml(value: Any) -> str:
     if isinstance(value, dict):
-        return "{ " + ", ".join(f"{key} = {_toml(item)}" for key, item in value.items()) + " }"
+        return "{ " + ", ".join(f"{_key(key)} = {_toml(item)}" for key, item in value.items()) + " }"
     if isinstance(value, list):
         return "[" + ", ".join(_toml(item) for item in value) + "]"
     return json.dumps(value)
+
+
+def _key(key: str) -> str:
+    """A key, in quotes where it has letters that want them."""
+    return key if BARE_KEY.fullmatch(key) else json.dumps(key)

@@ -3,9 +3,12 @@
 from __future__ import annotations
 
 import re
+from collections.abc import Iterator
 from dataclasses import dataclass, field
+from itertools import zip_longest
+from pathlib import Path
 
-from tp_sdk.faults import Fault
+from tp_sdk.faults import Fault, read_text
 
 MOST_READING = 0xFFFF_FFFF
 GUARDS = ("flush", "prefetch", "pad", "colour", "clone", "irq")
@@ -86,14 +89,86 @@ class Switch:
     count: int
     line: int = 0
 
+    def __str__(self) -> str:
+        return f"switch {self.entry} used {self.used} pad {self.pad} count {self.count}"
 
-@dataclass
+
+@dataclass(frozen=True)
+class Difference:
+    """A line in which two reports differ, or which one of them lacks, as its text is empty: `of` is the
+    domain's name, or `entry N` for the switches of an entry."""
+
+    of: str
+    here: str
+    there: str
+
+    def __str__(self) -> str:
+        here, there = (f"'{it}'" if it else "nothing" for it in (self.here, self.there))
+        return f"{self.of}: {here} here, and {there} there"
+
+
+@dataclass(repr=False)
 class Report:
-    """A report's sections and its lines of switches, and the guard that was off."""
+    """What a run came to, as docs/REPORT.md tells it line by line: `sections`, one a domain, in their order;
+    `switches`, one an entry of the schedule; the guard that was `off`, or `None`; the `text` of it all.
+
+    A section has the domain's `name`, `status`, `readings` (the first 256 clocks that it read, in
+    cycles), `replies` to its calls, the bytes that it printed (`out`). A switch has the most cycles
+    that it `used`, its `pad` in cycles, and how many there were (`count`).
+    """
 
     sections: list[Section] = field(default_factory=list)
     switches: list[Switch] = field(default_factory=list)
     off: str | None = None
+    text: str = ""
+
+    @classmethod
+    def read(cls, file: str | Path) -> Report:
+        """The report of a file; raises a `Fault` where it is none."""
+        return parse_report(read_text(Path(file)), str(file))
+
+    @classmethod
+    def parse(cls, text: str) -> Report:
+        """The report of a text; raises a `Fault` where it is none."""
+        return parse_report(text, "the text")
+
+    def readings(self, name: str) -> tuple[int, ...]:
+        """The clocks that a domain read, the first 256, in cycles; raises a `Fault` where there is no such
+        domain, as each of these does."""
+        return self.section(name).readings
+
+    def measurements(self, name: str, measure: str = "pairs") -> tuple[int, ...]:
+        """The cycles that a domain measured: `pairs` are each second reading less the one before it, `steps`
+        each reading less the one before it, `values` the readings themselves."""
+        # (which itself tells of sections)
+        from tp_sdk.measurements import MEASURES, by_pads, measurements_of
+
+        if measure not in MEASURES:
+            raise Fault(f"measure={measure!r}: there is no such measure: {', '.join(MEASURES)}")
+        return measurements_of(self.section(name), measure, by_pads([])).cycles
+
+    def differences(self, other: Report) -> list[Difference]:
+        """Each line in which another report differs, domain by domain and then entry by entry; none where
+        what all domains saw and what each switch used is the same."""
+        found = []
+        for of, here, there in _pairs(self._parts(), other._parts()):
+            lines = zip_longest(here, there, fillvalue="")
+            found += [Difference(of, one, another) for one, another in lines if one != another]
+        return found
+
+    def _parts(self) -> dict[str, list[str]]:
+        """The lines of each section and of each entry's switches."""
+        sections = {it.name: it.text.splitlines() for it in self.sections}
+        return sections | {f"entry {it.entry}": [str(it)] for it in self.switches}
+
+    def __str__(self) -> str:
+        return self.text
+
+    def __repr__(self) -> str:
+        off = "" if self.off is None else f", {self.off} off"
+        # (one domain alone has no switches, by which slots are told)
+        slots = f": {self.slots} slots" if self.switches else ""
+        return f"<Report of {', '.join(it.name for it in self.sections)}{slots}{off}>"
 
     def section(self, name: str) -> Section:
         """The section of the domain of this name."""
@@ -109,13 +184,21 @@ class Report:
         return sum(switch.count for switch in self.switches)
 
 
+def _pairs(
+    here: dict[str, list[str]], there: dict[str, list[str]]
+) -> Iterator[tuple[str, list[str], list[str]]]:
+    """What two reports have of each part that one of them has."""
+    for of in {**here, **there}:
+        yield of, here.get(of, []), there.get(of, [])
+
+
 def parse_report(text: str, file: str) -> Report:
     """Reads a report; `file` is named where it is none."""
     lines = text.splitlines()
     if not lines or lines[-1] != "end":
         told = f": the program's answer is '{lines[0]}'" if lines and lines[0].startswith("refused ") else ""
         raise Fault(f"{file}: no report, which ends with the line 'end'{told}")
-    report = Report(off=_off(lines[0], file))
+    report = Report(off=_off(lines[0], file), text=text)
     starts = [number for number, line in enumerate(lines) if line.startswith(("domain ", "switch ", "end"))]
     for start, after in zip(starts, starts[1:]):
         try:

@@ -11,6 +11,7 @@ from tp_sdk.faults import Fault
 from tp_sdk.program import Program
 from tp_sdk.progress import Progress
 from tp_sdk.report import Report, parse_report
+from tp_sdk.running import words_for, written
 
 # What takes longer is not run again for this alone: some seconds.
 _MOST_CYCLES = 200_000_000
@@ -29,11 +30,8 @@ def refuse_another_run(
         return
     text = build_text(description, program, programs)
     harts = 1 + max(entry.hart for entry in description.schedule)
-    words = ["run"] if report.off is None else ["ablate", "--off", report.off]
-    ended = program.run([*words, "--slots", str(report.slots // harts)], text)
-    if ended.code != 0:
-        raise Fault(f"{description.file}: the program ended with {ended.code}: {ended.text.strip()}")
-    again = parse_report(ended.text, str(description.file))
+    words = [*words_for(report.off), "--slots", str(report.slots // harts)]
+    again = parse_report(written(program, words, text, str(description.file)), str(description.file))
     for one, other in zip(report.sections, again.sections):
         lines = zip(one.text.splitlines(), other.text.splitlines())
         for number, (line, due) in enumerate(lines, one.line + 1):

@@ -9,7 +9,7 @@ from typing import Any
 
 Path = tuple[str | int, ...]
 
-_BARE_KEY = re.compile(r"[A-Za-z0-9_-]+")
+BARE_KEY = re.compile(r"[A-Za-z0-9_-]+")
 _BLANK = re.compile(r"(?:[ \t\r\n]|#[^\n]*)*")
 _SPACE = re.compile(r"[ \t]*")
 _SCALAR = re.compile(r"[^,\]}#\n]*")
@@ -146,7 +146,7 @@ class _Scanner:
             key = tomllib.loads(f"key = {self.text[start:self.at]}")["key"]
             assert isinstance(key, str)
             return key
-        return self.skip(_BARE_KEY)
+        return self.skip(BARE_KEY)
 
     def key_and_value(self, table: Path) -> None:
         start = self.at

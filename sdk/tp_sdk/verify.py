@@ -11,12 +11,8 @@ from tp_sdk.faults import Fault, read_text
 from tp_sdk.program import Program
 from tp_sdk.refusals import Image
 from tp_sdk.report import Report
+from tp_sdk.running import words_for
 from tp_sdk.schedule import domain_names, entries_of, slots_of_each
-
-
-def with_end(text: str) -> str:
-    """A section that stands alone, as a report."""
-    return text if text.endswith("end\n") else f"{text}end\n"
 
 
 @dataclass(frozen=True)
@@ -70,7 +66,7 @@ class Held:
         """The first line in which the domain's section after so many slots differs, if there is one."""
         section = report.section(self.name)
         domain = domain_names(self.image).index(self.name)
-        words = ["alone", "--domain", str(domain), "--slots", str(slots)]
+        words = [*words_for(alone=domain), "--slots", str(slots)]
         ended = program.run(words, self.text)
         if ended.code != 0:
             raise Fault(f"{self.file}: tp {' '.join(words)} answers '{ended.text.strip()}'")

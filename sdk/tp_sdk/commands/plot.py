@@ -17,6 +17,7 @@ from tp_sdk.information import Measured, capacity, entropy, measure
 from tp_sdk.keys import VERSION, version_of
 from tp_sdk.measurements import MEASURES, by_pads, by_schedule, measurements_of, rows_of
 from tp_sdk.memory import memory_of
+from tp_sdk.pictures import refuse_suffix
 from tp_sdk.plot_tables import write_channel, write_chart, write_memory, write_readings, write_timeline
 from tp_sdk.program import Program
 from tp_sdk.progress import progress
@@ -31,8 +32,6 @@ from tp_sdk.words import slots_from
 if TYPE_CHECKING:
     from tp_sdk.plot_matrix import Side
     from tp_sdk.plot_readings import Panel
-
-_SUFFIXES = (".svg", ".png")
 
 _HELP = """Draws reports of `tp run`, `tp harts` and `tp ablate`, as NAME.svg or NAME.png:
 
@@ -91,8 +90,7 @@ def main(words: list[str]) -> int:
             help="writes the picture's numbers, too, as a table; -: as output",
         )
     asked = parser.parse_args(words)
-    if asked.out.suffix not in _SUFFIXES:
-        raise Fault(f"{asked.out}: a picture is {' or '.join('NAME' + suffix for suffix in _SUFFIXES)}")
+    refuse_suffix(asked.out)
     if asked.dark:
         from tp_sdk.plots import use_dark_paper
 

@@ -9,13 +9,14 @@ from argparse import ArgumentParser, Namespace, RawDescriptionHelpFormatter
 from pathlib import Path
 
 from tp_sdk.build import build_text, domain_of, load_programs, set_words
-from tp_sdk.compiling import C
 from tp_sdk.description import Description, describe, read_description
 from tp_sdk.faults import EXIT_CODES, INPUT_AT_FAULT, STANDARD, Fault, read_bytes, write_bytes
+from tp_sdk.folders import C
 from tp_sdk.known import known_of
 from tp_sdk.program import Program
 from tp_sdk.progress import progress
 from tp_sdk.report import GUARDS, parse_report
+from tp_sdk.running import with_end, words_for, written
 from tp_sdk.telling import Telling
 from tp_sdk.words import SEED, number_within, slots_from
 
@@ -97,32 +98,28 @@ def _run(asked: Namespace, program: Program) -> Telling:
     if asked.image is not None:
         write_bytes(asked.image, text.encode())
     words, how = _words(asked, description)
-    ended = program.run([*words, "--slots", str(asked.slots)], text)
     file = ", ".join(map(str, asked.programs))
-    if ended.code != 0:
-        raise Fault(f"{file}: the program tp ended with {ended.code}: {ended.text.strip()}")
-    # (of one domain alone the program writes its section)
-    report = ended.text if asked.alone is None else f"{ended.text}end\n"
+    report = written(program, [*words, "--slots", str(asked.slots)], text, file)
     if asked.report is not None:
-        write_bytes(asked.report, ended.text.encode())
+        write_bytes(asked.report, report.encode())
     name = file if asked.report in (None, STANDARD) else str(asked.report)
     known = known_of(description, programs)
     known.file = asked.programs[0] if len(asked.programs) == 1 else None
-    return Telling(parse_report(report, name), name, known, asked.slots if asked.alone else None, how)
+    slots = asked.slots if asked.alone else None
+    return Telling(parse_report(with_end(report), name), name, known, slots, how)
 
 
 def _words(asked: Namespace, description: Description) -> tuple[list[str], str]:
     """The program's words, and what a head of sentences says of them."""
-    if asked.off is not None:
-        if any(entry.hart for entry in description.schedule):
-            raise Fault(f"--off {asked.off}: {description.file} has several harts, and all their guards stay")
-        return ["ablate", "--off", asked.off], ""
+    if asked.off is not None and any(entry.hart for entry in description.schedule):
+        raise Fault(f"--off {asked.off}: {description.file} has several harts, and all their guards stay")
+    alone, how = None, ""
     if asked.alone is not None:
         domain = domain_of(description, asked.alone, f"--alone {asked.alone}")
-        return ["alone", "--domain", str(description.domains.index(domain))], f", {asked.alone} alone"
-    if asked.harts is not None:
-        return ["harts", "--seed", str(asked.harts)], f", in the order of seed {asked.harts}"
-    return ["run"], ""
+        alone, how = description.domains.index(domain), f", {asked.alone} alone"
+    elif asked.harts is not None:
+        how = f", in the order of seed {asked.harts}"
+    return words_for(asked.off, alone, asked.harts), how
 
 
 def _text(telling: Telling, is_json: bool) -> str:

@@ -9,7 +9,8 @@ from tp_sdk.faults import EXIT_CODES, INPUT_AT_FAULT, read_text
 from tp_sdk.program import Program
 from tp_sdk.progress import progress
 from tp_sdk.report import parse_report
-from tp_sdk.verify import Held, with_end
+from tp_sdk.running import with_end
+from tp_sdk.verify import Held
 from tp_sdk.words import slots_from
 
 _HELP = """Runs one domain of an image alone, for as many slots as a report tells of, and compares

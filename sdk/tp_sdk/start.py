@@ -1,0 +1,27 @@
+"""The tools as they are started, in this folder by scripts of their names and, where the package is
+installed, by its entry points."""
+
+from collections.abc import Callable
+from functools import partial
+from importlib import import_module
+from typing import NoReturn
+
+from tp_sdk.faults import run_command
+
+
+def start(command: str) -> NoReturn:
+    """Runs a command on the process's words, and ends with its exit code. Its module is loaded here, so
+    that a library that is missing is told of."""
+    run_command(f"tp-{command}", lambda words: int(import_module(f"tp_sdk.commands.{command}").main(words)))
+
+
+Start = Callable[[], NoReturn]
+
+counts: Start = partial(start, "counts")
+explain: Start = partial(start, "explain")
+image: Start = partial(start, "image")
+plot: Start = partial(start, "plot")
+report: Start = partial(start, "report")
+run: Start = partial(start, "run")
+sweep: Start = partial(start, "sweep")
+verify: Start = partial(start, "verify")
