@@ -84,6 +84,11 @@ enum tp_status tp_alone(const uint8_t *image, size_t image_len, uint32_t domain,
 enum tp_status tp_ablate(const uint8_t *image, size_t image_len, uint32_t off, uint32_t slots, uint8_t *text,
                          size_t text_len, size_t *taken);
 
+/* Writes the image as the tenant of one of its domains may hold it.
+ * domain: its number, 0 to 31 */
+enum tp_status tp_redact(const uint8_t *image, size_t image_len, uint32_t domain, uint8_t *text, size_t text_len,
+                         size_t *taken);
+
 /* Writes the image that a seed makes.
  * seed: any */
 enum tp_status tp_gen(uint32_t seed, uint8_t *text, size_t text_len, size_t *taken);

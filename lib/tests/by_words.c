@@ -81,6 +81,8 @@ static enum tp_status answer(struct words words, const uint8_t *image, size_t le
         return tp_alone(image, len, domain, slots, text, room, taken);
     if (is(words, "ablate", 2) && guard(words, &off) && number(words, "--slots", &slots))
         return tp_ablate(image, len, off, slots, text, room, taken);
+    if (is(words, "redact", 1) && number(words, "--domain", &domain))
+        return tp_redact(image, len, domain, text, room, taken);
     if (is(words, "gen", 1) && number(words, "--seed", &seed))
         return tp_gen(seed, text, room, taken);
     if (is(words, "demo", 1) && number(words, "--seed", &seed))

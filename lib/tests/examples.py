@@ -24,6 +24,7 @@ COMMANDS = [
     ["harts", "--slots", "6", "--seed", "7"],
     ["alone", "--domain", "1", "--slots", "6"],
     ["ablate", "--off", "flush", "--slots", "6"],
+    ["redact", "--domain", "1"],
 ]
 SEEDS = [[command, "--seed", seed] for command in ("gen", "demo") for seed in ("0", "7", "4294967295")]
 

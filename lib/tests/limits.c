@@ -126,6 +126,8 @@ static void values(void)
     for (int i = 0; i < 6; i++) {
         fresh(&answer)->status = tp_alone(image, image_len, none[i], 4, answer.text, ROOM, &answer.taken);
         expect(has_text(&answer, TP_USAGE, USAGE), "alone with a domain that the image lacks");
+        fresh(&answer)->status = tp_redact(image, image_len, none[i], answer.text, ROOM, &answer.taken);
+        expect(has_text(&answer, TP_USAGE, USAGE), "redact with a domain that the image lacks");
     }
     static const uint32_t guards[] = {6, 256, UINT32_MAX};
     for (int i = 0; i < 3; i++) {

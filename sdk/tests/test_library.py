@@ -28,6 +28,7 @@ WORDS = [
     ["harts", "--seed", "7", "--slots", "4"],
     ["alone", "--slots", "4", "--domain", "1"],
     ["ablate", "--off", "colour", "--slots", "4"],
+    ["redact", "--domain", "1"],
     ["gen", "--seed", "4294967295"],
     ["demo", "--seed", "3"],
 ]

@@ -22,6 +22,7 @@ CALLS: dict[str, tuple[list[str], bool]] = {
     "harts": (["--slots", "--seed"], True),
     "alone": (["--domain", "--slots"], True),
     "ablate": (["--off", "--slots"], True),
+    "redact": (["--domain"], True),
     "gen": (["--seed"], False),
     "demo": (["--seed"], False),
 }

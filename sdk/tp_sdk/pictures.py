@@ -9,7 +9,7 @@ from pathlib import Path
 from typing import TYPE_CHECKING
 
 from tp_sdk.faults import Fault
-from tp_sdk.information import entropy
+from tp_sdk.information import capacity, entropy
 from tp_sdk.report import Report
 
 # (its library is loaded as the picture is drawn)
@@ -49,7 +49,7 @@ class Picture:
             return file.read_bytes()
 
     def __repr__(self) -> str:
-        return f"<Picture of {self.domain}: {', '.join(side.title for side in self.sides)}>"
+        return f"<Picture of {self.domain}: {', '.join(side.guards for side in self.sides)}>"
 
 
 def picture(domain: str, *sides: Mapping[Hashable, Report], measure: str = "pairs") -> Picture:
@@ -74,8 +74,8 @@ def picture(domain: str, *sides: Mapping[Hashable, Report], measure: str = "pair
         if len(off) > 1:
             raise Fault(f"one side of a picture has reports with {' and with '.join(map(_guards, off))}")
         rows = [reports[secret].measurements(domain, measure) for secret in secrets]
-        bits = entropy([reports[secret].readings(domain) for secret in secrets])
-        drawn.append(Side(off.pop(), rows, bits))
+        readings = [reports[secret].readings(domain) for secret in secrets]
+        drawn.append(Side(off.pop(), rows, entropy(readings), capacity(readings)))
     return Picture(domain, [str(secret) for secret in secrets], drawn)
 
 

@@ -13,6 +13,7 @@ u32 tp_run(IMAGE, u32 slots, TEXT);
 u32 tp_harts(IMAGE, u32 slots, u32 seed, TEXT);
 u32 tp_alone(IMAGE, u32 domain, u32 slots, TEXT);
 u32 tp_ablate(IMAGE, u32 off, u32 slots, TEXT);
+u32 tp_redact(IMAGE, u32 domain, TEXT);
 u32 tp_gen(u32 seed, TEXT);
 u32 tp_demo(u32 seed, TEXT);
 
@@ -28,6 +29,7 @@ EXPORT(run) u32 page_run(GIVEN, u32 slots, WANTED) { return tp_run(AS_IMAGE, slo
 EXPORT(harts) u32 page_harts(GIVEN, u32 slots, u32 seed, WANTED) { return tp_harts(AS_IMAGE, slots, seed, AS_TEXT); }
 EXPORT(alone) u32 page_alone(GIVEN, u32 domain, u32 slots, WANTED) { return tp_alone(AS_IMAGE, domain, slots, AS_TEXT); }
 EXPORT(ablate) u32 page_ablate(GIVEN, u32 off, u32 slots, WANTED) { return tp_ablate(AS_IMAGE, off, slots, AS_TEXT); }
+EXPORT(redact) u32 page_redact(GIVEN, u32 domain, WANTED) { return tp_redact(AS_IMAGE, domain, AS_TEXT); }
 EXPORT(gen) u32 page_gen(u32 seed, WANTED) { return tp_gen(seed, AS_TEXT); }
 EXPORT(demo) u32 page_demo(u32 seed, WANTED) { return tp_demo(seed, AS_TEXT); }
 

@@ -21,6 +21,7 @@ const COMMANDS = {
   harts: (it, given) => [...given, it.slots, it.seed],
   alone: (it, given) => [...given, it.domain, it.slots],
   ablate: (it, given) => [...given, GUARDS.indexOf(it.off), it.slots],
+  redact: (it, given) => [...given, it.domain],
   gen: (it) => [it.seed],
   demo: (it) => [it.seed],
 };
@@ -32,6 +33,7 @@ export function wordsOf(it) {
     harts: ['slots', 'seed'],
     alone: ['domain', 'slots'],
     ablate: ['off', 'slots'],
+    redact: ['domain'],
     gen: ['seed'],
     demo: ['seed'],
   }[it.command] ?? [];

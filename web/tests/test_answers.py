@@ -9,6 +9,7 @@ from typing import Any
 
 import pytest
 from conftest import GUARDS, TOP, Page, call_of, conformance
+from tp_sdk.library import CALLS
 
 EXAMPLES = TOP / "examples"
 MOST_BYTES = 1_048_576
@@ -67,14 +68,14 @@ def test_each_image_of_a_channel_has_its_reports(opened: Page, gallery: dict[str
 
 def is_of_module(words: str) -> bool:
     """The module has a call for it: words that are no command are for the program alone."""
-    wanted = {
-        "check": 0, "bound": 0, "run": 1, "harts": 2, "alone": 2, "ablate": 2, "gen": 1, "demo": 1,
-    }  # fmt: skip
     command, *rest = words.split() or [""]
+    options, _ = CALLS.get(command, ([], False))
     numbers = [value for name, value in zip(rest[::2], rest[1::2]) if name != "--off"]
     has_guard = "--off" not in rest or rest[rest.index("--off") + 1] in GUARDS
     return (
-        len(rest) == 2 * wanted.get(command, -1)
+        command in CALLS
+        and sorted(rest[::2]) == sorted(options)
+        and len(rest) % 2 == 0
         and all(it.isdigit() and int(it) < 2**32 for it in numbers)
         and has_guard
     )
@@ -115,6 +116,7 @@ def compared(opened: Page, program: Path, asked: list[tuple[str, bytes]]) -> lis
 
 def test_each_command_on_each_example(opened: Page, program: Path) -> None:
     words = ["check", "bound", "run --slots 6", "alone --domain 1 --slots 6", "harts --slots 6 --seed 7"]
+    words += ["redact --domain 0", "redact --domain 1"]
     words += [f"ablate --off {guard} --slots 6" for guard in GUARDS]
     images = sorted(EXAMPLES.glob("*.toml")) + sorted(EXAMPLES.glob("channels/*/secret-[05].toml"))
     for image in images:
@@ -128,6 +130,7 @@ def test_seeds_and_numbers_at_their_ends(opened: Page, program: Path) -> None:
     ]
     ends = ["run --slots 0", "run --slots 65536", "run --slots 65537", "alone --domain 31 --slots 1"]
     ends += ["alone --domain 32 --slots 1", "harts --slots 2 --seed 4294967295"]
+    ends += ["redact --domain 31", "redact --domain 32"]
     assert compared(opened, program, seeds + [(words, image) for words in ends]) == []
 
 

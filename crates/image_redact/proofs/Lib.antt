@@ -6,3 +6,6 @@ pub mod Kept
 pub mod Alike
 pub mod Ranges
 pub mod Seen
+pub mod Emptying
+pub mod Made
+pub mod Writable

@@ -8,7 +8,7 @@ use Rattle.image_redact.proofs.Lists.{from, at_either}
 module _ (v d : ℕ) (kept : List ℕ) (P : RawDomain → Type 0)
     (each : (n : ℕ) (o : RawDomain) → P (emptied v kept n o)) where
   -- what holds of a domain, and of every emptied one, holds of what is left of it
-  left : (n k : ℕ) (os : List RawDomain) → P (get_or os k no_raw_domain)
+  pub left : (n k : ℕ) (os : List RawDomain) → P (get_or os k no_raw_domain)
       → P (get_or (from v d kept n os) k no_raw_domain)
   left n k [] h = h
   left n zero (o ∷ os) h = at_either v d kept P n o (λ here. h) (λ there. each n o)

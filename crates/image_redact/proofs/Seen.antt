@@ -27,16 +27,16 @@ seen_alone i d n l =
     ap₂ (λ (p : Public) (o : Own). view_alone (public_on p (hart_for p.schedule d)) o d n) same.all same.own
 
 module _ (i : Raw) (d : ℕ) (ranges : InKeyRanges i) (first : FirstSaysNoCalls i) (accepted : broken i ≡ []) (l : d < length i.domains) where
-  runs : Runnable (image_from i)
+  pub runs : Runnable (image_from i)
   runs = runnable_law i ranges accepted
 
-  runs_too : Runnable (image_from (redacted i d))
+  pub runs_too : Runnable (image_from (redacted i d))
   runs_too = runnable_law (redacted i d) (ranges_law i d ranges) (accepted_law i d first accepted)
 
-  here : IsDomain (image_from i) d
+  pub here : IsDomain (image_from i) d
   here = let many = owns_length i in omega (arith, many, l)
 
-  there : IsDomain (image_from (redacted i d)) d
+  pub there : IsDomain (image_from (redacted i d)) d
   there =
       let many = owns_length (redacted i d) in
       let same = long i d in

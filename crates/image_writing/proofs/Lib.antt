@@ -7,3 +7,5 @@ pub mod Depth
 pub mod Writable
 pub mod ReadBack
 pub mod Mapped
+pub mod Floatless
+pub mod OneText

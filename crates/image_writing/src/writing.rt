@@ -5,6 +5,7 @@ ghost use Rattle.toml.specs.View.{table_view};
 ghost use Rattle.image_record.specs.Models.{raw_model};
 ghost use Rattle.image_text.specs.Record.{image_of};
 ghost use Rattle.image_writing.specs.Data as spec;
+ghost use Rattle.image_writing.specs.Text.{text_of};
 ghost use Rattle.image_writing.specs.Writing.{IsWritable};
 
 use crate::Memory;
@@ -22,6 +23,7 @@ use toml::Table;
 /// `Memory` where memory runs out.
 pub fn write_image(alloc: Global, raw: &Raw) -> Result<String, Memory>
     ensures text { IfOk result (λ s. IsDocumentText false (spec.record_members (raw_model raw.now)) (string_bytes s)) }
+    ensures written { IfOk result (λ s. string_bytes s ≡ text_of (raw_model raw.now)) }
     ensures reads { IfOk result (λ s. IsWritable (raw_model raw.now)
         → image_of (string_bytes s) ≡ Ok (raw_model raw.now)) }
 {

@@ -8,13 +8,12 @@ use Rattle.image_text.specs.Record.{image_of}
 use Rattle.image_record.specs.declared.refusal.ReadRefusal.{ReadRefusal}
 use Rattle.image_record.specs.declared.refusal.ReadRefusal.TheVariants.{Broken, Memory}
 use Rattle.image_check.specs.Outcomes.{IsFirst}
-use Rattle.image_reading.specs.Reading.{unless_broken}
 use Rattle.tp_words.specs.declared.Command.{Command}
 use Rattle.tp_words.specs.declared.Command.TheVariants.{Check}
-use Rattle.image_check.specs.Image.{Image, image_from}
+use Rattle.image_check.specs.Image.{image_from}
 use Rattle.image_check.specs.Checking.{broken}
 use Rattle.tp_answer.specs.Accepting.{Accepting}
-use Rattle.tp_answer.specs.Reading.{broken_for, checked_for, image_for}
+use Rattle.tp_answer.specs.Reading.{unless_broken, broken_for, checked_for, record_for}
 
 -- the first of some broken rules is what refuses the image
 first_refuses : (t : text.Raw) (due : List Refusal) (r : Refusal) → slice_get due 0 ≡ Some r
@@ -35,23 +34,41 @@ accepts_checked c t found (Err Memory) is refused accepted same = tt
 
 -- a text that reads as a record that breaks no rule
 pub checks_unbroken : (bytes : List ℕ) (t : text.Raw) → image_of bytes ≡ Ok t → broken t ≡ []
-    → image_for Check bytes ≡ Ok (image_from t)
-unfolding image_for checked_for broken_for
+    → record_for Check bytes ≡ Ok t
+unfolding record_for checked_for broken_for
 checks_unbroken bytes t reads unbroken = rw (reads, unbroken)
 
-abbrev pub value_or : Image → Result Image Refusal → Image
+abbrev pub value_or : text.Raw → Result text.Raw Refusal → text.Raw
 value_or i (Ok j) = j
 value_or i (Err r) = i
 
--- where an image is due, it is that one
-pub accepting_made : (result : Result text.Raw ReadRefusal) (found : Result Image Refusal) (i : Image)
-    → found ≡ Ok i → Accepting result found → IfOk result (λ t. image_from t ≡ i)
-accepting_made (Ok t) found i due accepting = ap (value_or i) (sym accepting ∙ due)
+-- where a record is due, it is that one
+pub accepting_made : (result : Result text.Raw ReadRefusal) (found : Result text.Raw Refusal) (i : text.Raw)
+    → found ≡ Ok i → Accepting result found → IfOk result (λ t. image_from t ≡ image_from i)
+accepting_made (Ok t) found i due accepting = ap image_from (ap (value_or i) (sym accepting ∙ due))
 accepting_made (Err e) found i due accepting = tt
 
 -- and it is never refused but for want of memory
-pub accepting_unbroken : (result : Result text.Raw ReadRefusal) (found : Result Image Refusal) (i : Image)
+pub accepting_unbroken : (result : Result text.Raw ReadRefusal) (found : Result text.Raw Refusal) (i : text.Raw)
     → found ≡ Ok i → Accepting result found → IfErr result (λ e. e ≡ Memory)
 accepting_unbroken (Ok t) found i due accepting = tt
 accepting_unbroken (Err Memory) found i due accepting = refl
 accepting_unbroken (Err (Broken r)) found i due accepting = absurd (cc (due, accepting))
+
+-- the record of a text, which breaks no rule of the command's
+pub record Found (c : Command) (read : Result text.Raw Refusal) (i : text.Raw) : Type 0 where
+  pub is : read ≡ Ok i
+  pub unbroken : broken_for c i ≡ []
+
+found_unbroken : (c : Command) (t i : text.Raw) (rs : List Refusal) → broken_for c t ≡ rs
+    → unless_broken t rs ≡ Ok i → Found c (Ok t) i
+found_unbroken c t i [] none e =
+    let same = ap (value_or i) e in
+    record { is = ap Ok same; unbroken = ap (broken_for c) (sym same) ∙ none }
+found_unbroken c t i (r ∷ rs) none e = absurd (cc)
+
+pub found_in : (c : Command) (read : Result text.Raw Refusal) (i : text.Raw) → checked_for c read ≡ Ok i
+    → Found c read i
+unfolding checked_for
+found_in c (Err r) i e = absurd (cc)
+found_in c (Ok t) i e = found_unbroken c t i (broken_for c t) refl e

@@ -10,19 +10,22 @@ use Rattle.tp_io.specs.Sends.{SinkState, Sent, CutShort, Sends}
 use Rattle.tp_io.specs.Causes.{TellsFault}
 use Rattle.tp_io.specs.Sure.{Exceeds}
 use Rattle.image_record.specs.declared.refusal.Refusal.{Refusal}
-use Rattle.image_check.specs.Image.{Image}
+use Rattle.image_record.specs.Record as text
+use Rattle.image_check.specs.Image.{Image, image_from}
 use Rattle.image_reading.specs.Reading.{most_bytes}
+use Rattle.image_redact.specs.Redacted.{redacted}
+use Rattle.image_writing.specs.Text.{text_of}
 use Rattle.world_view.specs.Relations.{IsDomain}
 use Rattle.guards.specs.declared.Guard.{Guard}
 use Rattle.sched_table.specs.Schedule.{harts_in}
 use Rattle.tp_report.specs.Report.{report_off, usage_text, refusal_text, too_long_text}
 use Rattle.tp_words.specs.declared.Command.{Command}
-use Rattle.tp_words.specs.declared.Command.TheVariants.{Check, Bound, Run, Alone, Gen, Demo, Ablate, Harts}
+use Rattle.tp_words.specs.declared.Command.TheVariants.{Check, Bound, Run, Alone, Gen, Demo, Ablate, Harts, Redact}
 use Rattle.tp_answer.specs.declared.status.Status.{Status}
 use Rattle.tp_answer.specs.declared.status.Status.TheVariants.{Done, Refused, Usage, ReadFault, WriteFault, Memory, TooLong}
 use Rattle.tp_words.specs.Words.{Reads, command}
-use Rattle.tp_answer.specs.Reading.{image_for}
-use Rattle.tp_answer.specs.Answer.{Answer, answer, answer_by, answer_of_bytes, answer_to_image, answer_gen, answer_demo, answer_unless_broken, answer_of_image, answer_alone, answer_off}
+use Rattle.tp_answer.specs.Reading.{record_for}
+use Rattle.tp_answer.specs.Answer.{Answer, answer, answer_by, answer_of_bytes, answer_to_image, answer_gen, answer_demo, answer_unless_broken, answer_of_record, answer_alone, answer_off, answer_redact}
 use Rattle.tp_answer.specs.Runs.{section_alone}
 use Rattle.tp_answer.specs.TopCall.{Writes, EndsUsage, Delivers, MayBeUsage, ComesTo}
 
@@ -162,6 +165,7 @@ longer_reads (Run n) bytes none over = tt
 longer_reads (Alone d n) bytes none over = tt
 longer_reads (Ablate off n) bytes none over = tt
 longer_reads (Harts n s) bytes none over = tt
+longer_reads (Redact d) bytes none over = tt
 longer_reads (Gen s) bytes none over =
     let empty = ap length (none (λ reads. reads)) in absurd (omega (arith, empty))
 longer_reads (Demo s) bytes none over =
@@ -177,6 +181,7 @@ read_due bytes (Run n) reads = refl
 read_due bytes (Alone d n) reads = refl
 read_due bytes (Ablate off n) reads = refl
 read_due bytes (Harts n s) reads = refl
+read_due bytes (Redact d) reads = refl
 read_due bytes (Gen s) reads = absurd reads
 read_due bytes (Demo s) reads = absurd reads
 
@@ -188,7 +193,7 @@ too_long_due bytes c reads over =
     rw (read_due bytes c reads, test)
 
 pub image_due : (bytes : List ℕ) (c : Command) → Reads c → length bytes ≤ most_bytes
-    → answer_of_bytes c bytes ≡ answer_unless_broken c (image_for c bytes)
+    → answer_of_bytes c bytes ≡ answer_unless_broken c (record_for c bytes)
 unfolding answer_to_image
 image_due bytes c reads few =
     let test : leb (length bytes) most_bytes ≡ true = grind (arith, nat_tests) in
@@ -204,41 +209,53 @@ unfolding answer_of_bytes
 demo_due bytes s = refl
 
 -- a rule is broken
-pub refusal_due : (c : Command) (found : Result Image Refusal) (r : Refusal) → found ≡ Err r
+pub refusal_due : (c : Command) (found : Result text.Raw Refusal) (r : Refusal) → found ≡ Err r
     → answer_unless_broken c found ≡ (Refused, refusal_text r)
 unfolding answer_unless_broken
 refusal_due c found r broken = rw broken
 
 -- none is
-pub found_due : (c : Command) (found : Result Image Refusal) (i : Image) → found ≡ Ok i
-    → answer_unless_broken c found ≡ answer_of_image c i
+pub found_due : (c : Command) (found : Result text.Raw Refusal) (i : text.Raw) → found ≡ Ok i
+    → answer_unless_broken c found ≡ answer_of_record c i
 unfolding answer_unless_broken
 found_due c found i read = rw read
 
 -- a domain of the image is run alone, and of another there is nothing to tell
 pub alone_due : (d n : ℕ) (i : Image) → IsDomain i d
-    → answer_of_image (Alone d n) i ≡ (Done, section_alone i d n)
-unfolding answer_of_image answer_alone
+    → answer_alone d n i ≡ (Done, section_alone i d n)
+unfolding answer_alone
 alone_due d n i is = let test : ltb d (length i.owns) ≡ true = grind (arith, nat_tests) in rw test
 
 pub lacks_due : (d n : ℕ) (i : Image) → length i.owns ≤ d
-    → answer_of_image (Alone d n) i ≡ (Usage, usage_text)
-unfolding answer_of_image answer_alone
+    → answer_alone d n i ≡ (Usage, usage_text)
+unfolding answer_alone
 lacks_due d n i lacks =
     let test : ltb d (length i.owns) ≡ false = grind (arith, nat_tests) in rw test
 
 -- an image of one hart is run with a guard off, and of several there is nothing to tell
 pub off_due : (off : Guard) (n : ℕ) (i : Image) → harts_in i.all.schedule ≡ 1
-    → answer_of_image (Ablate off n) i ≡ (Done, report_off off i n)
-unfolding answer_of_image answer_off
+    → answer_off off n i ≡ (Done, report_off off i n)
+unfolding answer_off
 off_due off n i one =
     ap (λ (b : Bool). if b then (Done, report_off off i n) else (Usage, usage_text)) (eq-eqb (harts_in i.all.schedule) 1 one)
 
 pub many_due : (off : Guard) (n : ℕ) (i : Image) → harts_in i.all.schedule ≢ 1
-    → answer_of_image (Ablate off n) i ≡ (Usage, usage_text)
-unfolding answer_of_image answer_off
+    → answer_off off n i ≡ (Usage, usage_text)
+unfolding answer_off
 many_due off n i many =
     ap (λ (b : Bool). if b then (Done, report_off off i n) else (Usage, usage_text)) (ne_eqb (harts_in i.all.schedule) 1 many)
+
+-- a domain of the image is kept, and of another there is nothing to keep
+pub kept_due : (d : ℕ) (i : text.Raw) → d < length i.domains
+    → answer_of_record (Redact d) i ≡ (Done, text_of (redacted i d))
+unfolding answer_of_record answer_redact
+kept_due d i is = let test : ltb d (length i.domains) ≡ true = grind (arith, nat_tests) in rw test
+
+pub none_kept_due : (d : ℕ) (i : text.Raw) → length i.domains ≤ d
+    → answer_of_record (Redact d) i ≡ (Usage, usage_text)
+unfolding answer_of_record answer_redact
+none_kept_due d i lacks =
+    let test : ltb d (length i.domains) ≡ false = grind (arith, nat_tests) in rw test
 
 pub usage_delivers : (words : List (List ℕ)) (bytes : List ℕ) (result : Status)
     (old new : SinkState) → command words ≡ None → Delivers (Usage, usage_text) result old new
@@ -264,31 +281,34 @@ pub of_chosen : (P : Status → Type 0) (test : Bool) (x y : Answer) → P x.0 �
 of_chosen P true x y p q = p
 of_chosen P false x y p q = q
 
-of_image : (c : Command) (found : Result Image Refusal) → IsOfImage (answer_unless_broken c found).0
-unfolding answer_unless_broken answer_of_image answer_alone answer_off
+of_image : (c : Command) (found : Result text.Raw Refusal) → IsOfImage (answer_unless_broken c found).0
+unfolding answer_unless_broken answer_of_record answer_alone answer_off answer_redact
 of_image Check (Ok i) = tt
 of_image Bound (Ok i) = tt
 of_image (Run n) (Ok i) = tt
 of_image (Alone d n) (Ok i) =
-    of_chosen IsOfImage (ltb d (length i.owns)) (Done, section_alone i d n) (Usage, usage_text) tt
-    tt
+    let j = image_from i in
+    of_chosen IsOfImage (ltb d (length j.owns)) (Done, section_alone j d n) (Usage, usage_text) tt tt
 of_image (Ablate off n) (Ok i) =
-    of_chosen IsOfImage (nat_eq (harts_in i.all.schedule) 1) (Done, report_off off i n) (Usage, usage_text) tt
-    tt
+    let j = image_from i in
+    of_chosen IsOfImage (nat_eq (harts_in j.all.schedule) 1) (Done, report_off off j n) (Usage, usage_text) tt tt
 of_image (Harts n s) (Ok i) = tt
+of_image (Redact d) (Ok i) =
+    of_chosen IsOfImage (ltb d (length i.domains)) (Done, text_of (redacted i d)) (Usage, usage_text) tt tt
 of_image (Gen s) (Ok i) = tt
 of_image (Demo s) (Ok i) = tt
 of_image c (Err r) = tt
 
 -- usage is due to no image, but where a domain is named, or a guard
-pub usage_of : (c : Command) (found : Result Image Refusal)
+pub usage_of : (c : Command) (found : Result text.Raw Refusal)
     → Usage ≡ (answer_unless_broken c found).0 → MayBeUsage (Some c)
-unfolding answer_unless_broken answer_of_image
+unfolding answer_unless_broken answer_of_record
 usage_of Check (Ok i) e = cc e
 usage_of Bound (Ok i) e = cc e
 usage_of (Run n) (Ok i) e = cc e
 usage_of (Alone d n) found e = tt
 usage_of (Ablate off n) found e = tt
+usage_of (Redact d) found e = tt
 usage_of (Harts n s) (Ok i) e = cc e
 usage_of (Gen s) (Ok i) e = cc e
 usage_of (Demo s) (Ok i) e = cc e
@@ -304,6 +324,7 @@ other_reads (Run n) items status e other = tt
 other_reads (Alone d n) items status e other = tt
 other_reads (Ablate off n) items status e other = tt
 other_reads (Harts n s) items status e other = tt
+other_reads (Redact d) items status e other = tt
 other_reads (Gen s) items status e other = absurd (other e)
 other_reads (Demo s) items status e other = absurd (other e)
 
@@ -322,7 +343,7 @@ is_over c reads items e = elim (cases_lt most_bytes (length items)) [
   | inl over ↦ over
   | inr few ↦
       let is = e ∙ ap (λ (a : Answer). a.0) (image_due items c reads few) in
-      absurd (subst IsOfImage (sym is) (of_image c (image_for c items)))
+      absurd (subst IsOfImage (sym is) (of_image c (record_for c items)))
 ]
 
 -- words that are no command: the usage line was sent, or a front of it

@@ -1,5 +1,5 @@
 -- What a command tells that was answered: the top call's clauses, by what was due.
-use Rattle.std.proofs.Common.{◌≡◌, ◌≢◌, ℕ, ◌^◌, ◌<◌, ◌≤◌, ltb, nat_eq, List, [], ◌∷◌, length, Option, Some, Result, Ok, Err, refl, sym, ap, ◌∙◌, subst, inl, inr}
+use Rattle.std.proofs.Common.{◌≡◌, ◌≢◌, ℕ, ◌^◌, ◌<◌, ◌≤◌, ltb, nat_eq, List, [], ◌∷◌, length, Option, Some, Result, Ok, Err, refl, sym, ap, ◌∙◌, subst, inl, inr, arith}
 use Rattle.std.specs.Prelude.{slice_get}
 use Rattle.std.proofs.lemmas.Bool.{cases_lt, cases_eq}
 use Rattle.tp_io.specs.Bytes.{before_known, after_known, AtEnd}
@@ -9,8 +9,12 @@ use Rattle.image_record.specs.declared.refusal.Refusal.{Refusal}
 use Rattle.image_record.specs.Record as text
 use Rattle.image_text.specs.Record.{image_of}
 use Rattle.sched_table.specs.Schedule.{harts_in}
+use Rattle.image_check.specs.Checking.{broken}
 use Rattle.image_check.specs.Image.{Image, image_from}
-use Rattle.image_reading.specs.Reading.{image, checked, unless_broken, most_bytes}
+use Rattle.image_check.proofs.Owns.{owns_length}
+use Rattle.image_reading.specs.Reading.{image, checked, most_bytes}
+use Rattle.image_redact.specs.Redacted.{redacted}
+use Rattle.image_writing.specs.Text.{text_of}
 use Rattle.image_check.specs.Laws.{Runnable}
 use Rattle.image_reading.proofs.ReadingLaws.{read_runs}
 use Rattle.world_view.proofs.harts.Clocks.{hart_starts}
@@ -20,17 +24,18 @@ use Rattle.image_gen.specs.Text.{text as generated_text}
 use Rattle.image_gen.proofs.Kept.{accepted_law}
 use Rattle.tp_report.specs.Report.{report_off, bounds_of, usage_text, refusal_text}
 use Rattle.tp_words.specs.declared.Command.{Command}
-use Rattle.tp_words.specs.declared.Command.TheVariants.{Check, Bound, Run, Alone, Gen, Demo, Ablate, Harts}
+use Rattle.tp_words.specs.declared.Command.TheVariants.{Check, Bound, Run, Alone, Gen, Demo, Ablate, Harts, Redact}
 use Rattle.tp_answer.specs.declared.status.Status.{Status}
 use Rattle.tp_answer.specs.declared.status.Status.TheVariants.{Done, Refused, Usage, TooLong}
 use Rattle.tp_words.specs.Words.{Reads, command}
-use Rattle.tp_answer.specs.Reading.{broken_for, broken_in, checked_for, image_for}
-use Rattle.tp_answer.specs.Answer.{Answer, answer, answer_of_bytes, answer_unless_broken, answer_of_image, answer_alone, answer_off}
+use Rattle.tp_answer.specs.Reading.{unless_broken, broken_for, broken_in, checked_for, record_for}
+use Rattle.tp_answer.specs.Answer.{Answer, answer, answer_of_bytes, answer_unless_broken, answer_of_record, answer_alone, answer_off, answer_redact}
 use Rattle.tp_answer.specs.Runs.{report, section_alone}
 use Rattle.tp_answer.proofs.Runs.{seen_alone, within_pads, lines_within, apart, same_section}
-use Rattle.tp_answer.proofs.Accepting.{value_or}
-use Rattle.tp_answer.specs.TopCall.{Writes, Delivers, MayBeUsage, ReadsImage, Refuses, Accepts, Bounds, Isolated, Padded, LacksDomain, WritesSection, SameSection, HasManyHarts, WritesOff, ReadsBack, Generates, Summarizes}
-use Rattle.tp_answer.proofs.Answers.{all_taken, over_taken, too_long_due, image_due, bytes_due, gen_due, demo_due, alone_due, lacks_due, off_due, many_due, of_chosen, usage_of, other_reads, is_few, is_over}
+use Rattle.tp_answer.proofs.Accepting.{Found, found_in}
+use Rattle.tp_answer.proofs.Kept.{kept_accepted, same_alone, same_among}
+use Rattle.tp_answer.specs.TopCall.{Writes, Delivers, MayBeUsage, ReadsImage, Refuses, Accepts, Bounds, Isolated, Padded, LacksDomain, WritesSection, SameSection, HasManyHarts, WritesOff, ReadsAll, KeptReadsBack, Redacts, ReadsBack, Generates, Summarizes}
+use Rattle.tp_answer.proofs.Answers.{all_taken, over_taken, too_long_due, image_due, bytes_due, gen_due, demo_due, alone_due, lacks_due, off_due, many_due, kept_due, none_kept_due, of_chosen, usage_of, other_reads, is_few, is_over}
 
 -- ---- the same is due
 
@@ -59,6 +64,7 @@ same_taken (Ablate off n) bytes items rest took whole =
     same_read (Ablate off n) tt bytes items rest took whole
 same_taken (Harts n s) bytes items rest took whole =
     same_read (Harts n s) tt bytes items rest took whole
+same_taken (Redact d) bytes items rest took whole = same_read (Redact d) tt bytes items rest took whole
 
 -- ---- a command that was answered
 
@@ -150,44 +156,21 @@ module _ (a : Asked) (h : IsAnswered a) where
       let due : IsDue a Usage (due_to a) = wrote_as Usage usage in
       let reads = other_reads a.command a.items Usage due.0 (λ e. cc e) in
       let is = image_due a.items a.command reads (usage_reads reads usage) in
-      usage_of a.command (image_for a.command a.items) (due.0 ∙ ap (λ (x : Answer). x.0) is)
+      usage_of a.command (record_for a.command a.items) (due.0 ∙ ap (λ (x : Answer). x.0) is)
 
--- ---- what the image was
+-- ---- what the record was
 
-abbrev refusal_or : Refusal → Result Image Refusal → Refusal
+abbrev refusal_or : Refusal → Result text.Raw Refusal → Refusal
 refusal_or r (Ok i) = r
 refusal_or r (Err q) = q
 
-run_reads : (n : ℕ) (found : Result text.Raw Refusal) → checked_for (Run n) found ≡ checked found
-unfolding checked_for checked broken_for
-run_reads n (Ok i) = refl
-run_reads n (Err r) = refl
-
-alone_reads : (d n : ℕ) (found : Result text.Raw Refusal)
-    → checked_for (Alone d n) found ≡ checked found
-unfolding checked_for checked broken_for
-alone_reads d n (Ok i) = refl
-alone_reads d n (Err r) = refl
-
-off_reads : (off : Guard) (n : ℕ) (found : Result text.Raw Refusal)
-    → checked_for (Ablate off n) found ≡ checked found
-unfolding checked_for checked broken_for
-off_reads off n (Ok i) = refl
-off_reads off n (Err r) = refl
-
-harts_read : (n s : ℕ) (found : Result text.Raw Refusal)
-    → checked_for (Harts n s) found ≡ checked found
-unfolding checked_for checked broken_for
-harts_read n s (Ok i) = refl
-harts_read n s (Err r) = refl
-
--- another status than Refused tells that an image was found
-found_image : (c : Command) (found : Result Image Refusal) (status : Status) → status ≢ Refused
+-- another status than Refused tells that a record was found
+found_record : (c : Command) (found : Result text.Raw Refusal) (status : Status) → status ≢ Refused
     → status ≡ (answer_unless_broken c found).0
-    → (i : Image) × (found ≡ Ok i) × (answer_unless_broken c found ≡ answer_of_image c i)
+    → (i : text.Raw) × (found ≡ Ok i) × (answer_unless_broken c found ≡ answer_of_record c i)
 unfolding answer_unless_broken
-found_image c (Err r) status other e = absurd (other e)
-found_image c (Ok i) status other e = (i, refl, refl)
+found_record c (Err r) status other e = absurd (other e)
+found_record c (Ok i) status other e = (i, refl, refl)
 
 done_is_found : Done ≢ Refused
 done_is_found e = cc
@@ -195,46 +178,32 @@ done_is_found e = cc
 usage_is_found : Usage ≢ Refused
 usage_is_found e = cc
 
-no_refusal : (c : Command) (i : Image) → Refused ≡ (answer_of_image c i).0 → ⊥
-unfolding answer_of_image answer_alone answer_off
+no_refusal : (c : Command) (i : text.Raw) → Refused ≡ (answer_of_record c i).0 → ⊥
+unfolding answer_of_record answer_alone answer_off answer_redact
 no_refusal Check i e = cc e
 no_refusal Bound i e = cc e
 no_refusal (Run n) i e = cc e
 no_refusal (Ablate off n) i e =
-    of_chosen (λ s. Refused ≢ s) (nat_eq (harts_in i.all.schedule) 1) (Done, report_off off i n)
+    let j = image_from i in
+    of_chosen (λ s. Refused ≢ s) (nat_eq (harts_in j.all.schedule) 1) (Done, report_off off j n)
     (Usage, usage_text) (λ r. cc r) (λ r. cc r) e
 no_refusal (Harts n s) i e = cc e
 no_refusal (Gen s) i e = cc e
 no_refusal (Demo s) i e = cc e
 no_refusal (Alone d n) i e =
-    of_chosen (λ s. Refused ≢ s) (ltb d (length i.owns)) (Done, section_alone i d n)
+    let j = image_from i in
+    of_chosen (λ s. Refused ≢ s) (ltb d (length j.owns)) (Done, section_alone j d n)
+    (Usage, usage_text) (λ r. cc r) (λ r. cc r) e
+no_refusal (Redact d) i e =
+    of_chosen (λ s. Refused ≢ s) (ltb d (length i.domains)) (Done, text_of (redacted i d))
     (Usage, usage_text) (λ r. cc r) (λ r. cc r) e
 
-refused_image : (c : Command) (found : Result Image Refusal)
+refused_record : (c : Command) (found : Result text.Raw Refusal)
     → Refused ≡ (answer_unless_broken c found).0
     → (r : Refusal) × (found ≡ Err r) × (answer_unless_broken c found ≡ (Refused, refusal_text r))
 unfolding answer_unless_broken
-refused_image c (Err r) e = (r, refl, refl)
-refused_image c (Ok i) e = absurd (no_refusal c i e)
-
--- an image that was found, in the record of its text
-pub record Found (c : Command) (read : Result text.Raw Refusal) (i : Image) : Type 0 where
-  pub record_of : text.Raw
-  pub is : read ≡ Ok record_of
-  pub unbroken : broken_for c record_of ≡ []
-  pub image : i ≡ image_from record_of
-
-found_unbroken : (c : Command) (t : text.Raw) (i : Image) (rs : List Refusal) → broken_for c t ≡ rs
-    → unless_broken t rs ≡ Ok i → Found c (Ok t) i
-found_unbroken c t i [] none e =
-    record { record_of = t; is = refl; unbroken = none; image = sym (ap (value_or i) e) }
-found_unbroken c t i (r ∷ rs) none e = absurd (cc)
-
-found_in : (c : Command) (read : Result text.Raw Refusal) (i : Image) → checked_for c read ≡ Ok i
-    → Found c read i
-unfolding checked_for
-found_in c (Err r) i e = absurd (cc)
-found_in c (Ok t) i e = found_unbroken c t i (broken_for c t) refl e
+refused_record c (Err r) e = (r, refl, refl)
+refused_record c (Ok i) e = absurd (no_refusal c i e)
 
 first_unless : (t : text.Raw) (r : Refusal) (rs : List Refusal) → unless_broken t rs ≡ Err r
     → slice_get rs 0 ≡ Some r
@@ -247,23 +216,28 @@ unfolding checked_for broken_in
 first_in c (Err q) r e = ap Some (ap (refusal_or r) e)
 first_in c (Ok t) r e = first_unless t r (broken_for c t) e
 
+-- the image of a record that breaks no rule
+image_read : (bytes : List ℕ) (t : text.Raw) → image_of bytes ≡ Ok t → broken t ≡ [] → image bytes ≡ Ok (image_from t)
+unfolding image checked
+image_read bytes t read unbroken = rw (read, unbroken) refl
+
 -- ---- what a done command, and a refused one, tell
 
 module _ (a : Asked) (h : IsAnswered a) where
-  -- what is due to the image
+  -- what is due to the record
   told : (status : Status) → Reads a.command → IsDue a status (due_to a)
       → length a.items ≤ most_bytes
-      → IsDue a status (answer_unless_broken a.command (image_for a.command a.items))
+      → IsDue a status (answer_unless_broken a.command (record_for a.command a.items))
   told status reads due few =
       let is = image_due a.items a.command reads few in
       (due.0 ∙ ap (λ (x : Answer). x.0) is, due.1 ∙ ap (λ (x : Answer). after_known a.old.written x.1) is)
 
   pub refuses : a.status ≡ Refused → Refuses a.command a.left a.left' a.old.written a.new.written
-  unfolding image_for
+  unfolding record_for
   refuses refused =
       let (reads, few) = refused_reads a h refused in
       let t = told Refused reads (wrote_as a h Refused refused) few in
-      let (r, broken, is) = refused_image a.command (image_for a.command a.items) t.0 in
+      let (r, broken, is) = refused_record a.command (record_for a.command a.items) t.0 in
       record {
         all = record { bytes = a.items; took = h.took; whole = h.whole reads few; few = few };
         item = r;
@@ -271,97 +245,92 @@ module _ (a : Asked) (h : IsAnswered a) where
         wrote = t.1 ∙ ap (λ (x : Answer). after_known a.old.written x.1) is;
       }
 
-  done_found : Reads a.command → a.status ≡ Done
-      → (i : Image) × Found a.command (image_of a.items) i
-      × HasWritten a (answer_of_image a.command i).1
-  unfolding image_for
-  done_found reads done =
-      let t = told Done reads (wrote_as a h Done done) (done_reads a h reads done) in
-      let (i, read, is) =
-      found_image a.command (image_for a.command a.items) Done done_is_found t.0 in (
+  -- what was due was due to a record
+  reads_record : Reads a.command → (status : Status) → status ≢ Refused → IsDue a status (due_to a)
+      → length a.items ≤ most_bytes
+      → (i : text.Raw) × Found a.command (image_of a.items) i × IsDue a status (answer_of_record a.command i)
+  unfolding record_for
+  reads_record reads status other due few =
+      let t = told status reads due few in
+      let (i, read, is) = found_record a.command (record_for a.command a.items) status other t.0 in (
         i,
         found_in a.command (image_of a.items) i read,
-        t.1 ∙ ap (λ (x : Answer). after_known a.old.written x.1) is,
+        (t.0 ∙ ap (λ (x : Answer). x.0) is, t.1 ∙ ap (λ (x : Answer). after_known a.old.written x.1) is),
       )
 
-  -- a command for which an image is read as for a run: what was due was due to that image
-  reads_image : Reads a.command
-      → ((found : Result text.Raw Refusal) → checked_for a.command found ≡ checked found)
-      → (status : Status) → status ≢ Refused → IsDue a status (due_to a)
-      → length a.items ≤ most_bytes
-      → (r : ReadsImage a.left a.left') × (status ≡ (answer_of_image a.command r.found).0)
-      × HasWritten a (answer_of_image a.command r.found).1
-  unfolding image image_for
-  reads_image reads as_run status other due few =
-      let is = image_due a.items a.command reads few in
-      let found = image_for a.command a.items in
-      let (i, read, same) =
-      found_image a.command found status other (due.0 ∙ ap (λ (x : Answer). x.0) is) in (
+  -- of a command whose answer goes by the image alone, and for which it must break no rule, to an image
+  reads_image : (answer_to : Image → Answer) → ((i : text.Raw) → broken_for a.command i ≡ broken i)
+      → ((i : text.Raw) → answer_of_record a.command i ≡ answer_to (image_from i))
+      → Reads a.command → (status : Status) → status ≢ Refused → IsDue a status (due_to a)
+      → length a.items ≤ most_bytes → (r : ReadsImage a.left a.left') × IsDue a status (answer_to r.found)
+  reads_image answer_to every own reads status other due few =
+      let (i, found, is) = reads_record reads status other due few in (
         record {
           bytes = a.items;
-          found = i;
+          found = image_from i;
           took = h.took;
           whole = h.whole reads few;
           few = few;
-          read = sym (as_run (image_of a.items)) ∙ read;
+          read = image_read a.items i found.is (sym (every i) ∙ found.unbroken);
         },
-        due.0 ∙ ap (λ (x : Answer). x.0) (is ∙ same),
-        due.1 ∙ ap (λ (x : Answer). after_known a.old.written x.1) (is ∙ same),
+        subst (λ (x : Answer). IsDue a status x) (own i) is,
       )
 
 pub accepts : (a : Asked) → IsAnswered a → a.command ≡ Check → a.status ≡ Done
     → Accepts a.left a.left' a.old.written a.new.written
-unfolding answer_of_image broken_for
+unfolding answer_of_record broken_for
 accepts a h asked done =
     let b : Asked = record a { command = Check } in
     let k : IsAnswered b = as_command a Check asked h in
     let few = done_reads b k tt done in
-    let (i, found, wrote) = done_found b k tt done in
+    let (i, found, is) = reads_record b k tt Done done_is_found (wrote_as b k Done done) few in
     record {
       all = record { bytes = a.items; took = h.took; whole = k.whole tt few; few = few };
-      record_of = found.record_of;
+      record_of = i;
       read = found.is;
       unbroken = found.unbroken;
-      wrote = wrote;
+      wrote = is.1;
     }
 
 pub bounds : (a : Asked) → IsAnswered a → a.command ≡ Bound → a.status ≡ Done
     → Bounds a.left a.left' a.old.written a.new.written
-unfolding answer_of_image broken_for
+unfolding answer_of_record broken_for
 bounds a h asked done =
     let b : Asked = record a { command = Bound } in
     let k : IsAnswered b = as_command a Bound asked h in
     let few = done_reads b k tt done in
-    let (i, found, wrote) = done_found b k tt done in
+    let (i, found, is) = reads_record b k tt Done done_is_found (wrote_as b k Done done) few in
     record {
       all = record { bytes = a.items; took = h.took; whole = k.whole tt few; few = few };
-      record_of = found.record_of;
+      record_of = i;
       read = found.is;
       unbroken = found.unbroken;
-      wrote = wrote ∙ ap (λ (j : Image). after_known a.old.written (bounds_of j)) found.image;
+      wrote = is.1;
     }
 
 pub ran : (n : ℕ) (a : Asked) → IsAnswered a → a.command ≡ Run n → a.status ≡ Done
     → (r : ReadsImage a.left a.left') × HasWritten a (report r.found LeastClock n)
-unfolding answer_of_image
+unfolding answer_of_record broken_for
 ran n a h asked done =
     let b : Asked = record a { command = Run n } in
     let k : IsAnswered b = as_command a (Run n) asked h in
     let due : IsDue b Done (due_to b) = wrote_as b k Done done in
-    let (r, is, wrote) =
-    reads_image b k tt (run_reads n) Done done_is_found due (done_reads b k tt done) in
-    (r, wrote)
+    let (r, is) =
+    reads_image b k (λ i. (Done, report i LeastClock n)) (λ i. refl) (λ i. refl) tt Done done_is_found due
+    (done_reads b k tt done) in
+    (r, is.1)
 
 pub harts_ran : (n s : ℕ) (a : Asked) → IsAnswered a → a.command ≡ Harts n s → a.status ≡ Done
     → (r : ReadsImage a.left a.left') × HasWritten a (report r.found (Drawn s) n)
-unfolding answer_of_image
+unfolding answer_of_record broken_for
 harts_ran n s a h asked done =
     let b : Asked = record a { command = Harts n s } in
     let k : IsAnswered b = as_command a (Harts n s) asked h in
     let due : IsDue b Done (due_to b) = wrote_as b k Done done in
-    let (r, is, wrote) =
-    reads_image b k tt (harts_read n s) Done done_is_found due (done_reads b k tt done) in
-    (r, wrote)
+    let (r, is) =
+    reads_image b k (λ i. (Done, report i (Drawn s) n)) (λ i. refl) (λ i. refl) tt Done done_is_found due
+    (done_reads b k tt done) in
+    (r, is.1)
 
 read_separated : (left left' : Option (List ℕ)) (r : ReadsImage left left') → Runnable r.found
 read_separated left left' r = read_runs r.bytes r.found r.read
@@ -391,36 +360,38 @@ is_padded c n left left' r =
 
 pub lacks_domain : (d n : ℕ) (a : Asked) → IsAnswered a → a.command ≡ Alone d n → a.status ≡ Usage
     → LacksDomain d a.left a.left' a.old.written a.new.written
+unfolding answer_of_record broken_for
 lacks_domain d n a h asked usage =
     let b : Asked = record a { command = Alone d n } in
     let k : IsAnswered b = as_command a (Alone d n) asked h in
     let due : IsDue b Usage (due_to b) = wrote_as b k Usage usage in
     let few = usage_reads b k tt usage in
-    let (r, is, wrote) = reads_image b k tt (alone_reads d n) Usage usage_is_found due few in
+    let (r, is) = reads_image b k (answer_alone d n) (λ i. refl) (λ i. refl) tt Usage usage_is_found due few in
     elim (cases_lt d (length r.found.owns)) [
       | inl has ↦
-          let same = is ∙ ap (λ (x : Answer). x.0) (alone_due d n r.found has) in absurd (cc same)
+          let same = is.0 ∙ ap (λ (x : Answer). x.0) (alone_due d n r.found has) in absurd (cc same)
       | inr lacks ↦
           let line =
           ap (λ (x : Answer). after_known a.old.written x.1) (lacks_due d n r.found lacks) in
-          record { ran = r; lacks = lacks; wrote = wrote ∙ line }
+          record { ran = r; lacks = lacks; wrote = is.1 ∙ line }
     ]
 
 pub writes_section : (d n : ℕ) (a : Asked) → IsAnswered a → a.command ≡ Alone d n → a.status ≡ Done
     → WritesSection d n a.left a.left' a.old.written a.new.written
+unfolding answer_of_record broken_for
 writes_section d n a h asked done =
     let b : Asked = record a { command = Alone d n } in
     let k : IsAnswered b = as_command a (Alone d n) asked h in
     let due : IsDue b Done (due_to b) = wrote_as b k Done done in
     let few = done_reads b k tt done in
-    let (r, is, wrote) = reads_image b k tt (alone_reads d n) Done done_is_found due few in
+    let (r, is) = reads_image b k (answer_alone d n) (λ i. refl) (λ i. refl) tt Done done_is_found due few in
     elim (cases_lt d (length r.found.owns)) [
       | inl has ↦
           let section =
           ap (λ (x : Answer). after_known a.old.written x.1) (alone_due d n r.found has) in
-          record { ran = r; domain = has; wrote = wrote ∙ section }
+          record { ran = r; domain = has; wrote = is.1 ∙ section }
       | inr lacks ↦
-          let same = is ∙ ap (λ (x : Answer). x.0) (lacks_due d n r.found lacks) in absurd (cc same)
+          let same = is.0 ∙ ap (λ (x : Answer). x.0) (lacks_due d n r.found lacks) in absurd (cc same)
     ]
 
 -- the section is that of the report
@@ -440,35 +411,93 @@ is_same_section k n left left' old new w = record {
 
 pub writes_off : (off : Guard) (n : ℕ) (a : Asked) → IsAnswered a → a.command ≡ Ablate off n → a.status ≡ Done
     → WritesOff off n a.left a.left' a.old.written a.new.written
+unfolding answer_of_record broken_for
 writes_off off n a h asked done =
     let b : Asked = record a { command = Ablate off n } in
     let k : IsAnswered b = as_command a (Ablate off n) asked h in
     let due : IsDue b Done (due_to b) = wrote_as b k Done done in
-    let (r, is, wrote) =
-    reads_image b k tt (off_reads off n) Done done_is_found due (done_reads b k tt done) in
+    let (r, is) =
+    reads_image b k (answer_off off n) (λ i. refl) (λ i. refl) tt Done done_is_found due (done_reads b k tt done) in
     elim (cases_eq (harts_in r.found.all.schedule) 1) [
       | inl one ↦
           let text = ap (λ (x : Answer). after_known a.old.written x.1) (off_due off n r.found one) in
-          record { ran = r; one = one; wrote = wrote ∙ text }
+          record { ran = r; one = one; wrote = is.1 ∙ text }
       | inr many ↦
-          let same = is ∙ ap (λ (x : Answer). x.0) (many_due off n r.found many) in absurd (cc same)
+          let same = is.0 ∙ ap (λ (x : Answer). x.0) (many_due off n r.found many) in absurd (cc same)
     ]
 
 pub has_many_harts : (off : Guard) (n : ℕ) (a : Asked) → IsAnswered a → a.command ≡ Ablate off n
     → a.status ≡ Usage
     → HasManyHarts a.left a.left' a.old.written a.new.written
+unfolding answer_of_record broken_for
 has_many_harts off n a h asked usage =
     let b : Asked = record a { command = Ablate off n } in
     let k : IsAnswered b = as_command a (Ablate off n) asked h in
     let due : IsDue b Usage (due_to b) = wrote_as b k Usage usage in
-    let (r, is, wrote) =
-    reads_image b k tt (off_reads off n) Usage usage_is_found due (usage_reads b k tt usage) in
+    let (r, is) =
+    reads_image b k (answer_off off n) (λ i. refl) (λ i. refl) tt Usage usage_is_found due (usage_reads b k tt usage) in
     elim (cases_eq (harts_in r.found.all.schedule) 1) [
       | inl one ↦
-          let same = is ∙ ap (λ (x : Answer). x.0) (off_due off n r.found one) in absurd (cc same)
+          let same = is.0 ∙ ap (λ (x : Answer). x.0) (off_due off n r.found one) in absurd (cc same)
       | inr many ↦
           let line = ap (λ (x : Answer). after_known a.old.written x.1) (many_due off n r.found many) in
-          record { ran = r; many = many; wrote = wrote ∙ line }
+          record { ran = r; many = many; wrote = is.1 ∙ line }
+    ]
+
+-- ---- the image as the tenant of a domain may hold it
+
+pub redacts : (d : ℕ) (a : Asked) → IsAnswered a → a.command ≡ Redact d → a.status ≡ Done
+    → KeptReadsBack d a.items → Redacts d a.left a.left' a.old.written a.new.written
+unfolding broken_for
+redacts d a h asked done back =
+    let b : Asked = record a { command = Redact d } in
+    let k : IsAnswered b = as_command a (Redact d) asked h in
+    let few = done_reads b k tt done in
+    let (i, found, is) = reads_record b k tt Done done_is_found (wrote_as b k Done done) few in
+    elim (cases_lt d (length i.domains)) [
+      | inl has ↦
+          let text = ap (λ (x : Answer). after_known a.old.written x.1) (kept_due d i has) in
+          record {
+            all = record { bytes = a.items; took = h.took; whole = k.whole tt few; few = few };
+            record_of = i;
+            read = found.is;
+            unbroken = found.unbroken;
+            domain = has;
+            wrote = is.1 ∙ text;
+            reads_back = back i found.is found.unbroken;
+            accepted = kept_accepted a.items i d found.is found.unbroken;
+            same_alone = λ n. same_alone i d n has;
+            same_among = λ c n. same_among a.items i d found.is found.unbroken has c n;
+          }
+      | inr lacks ↦
+          let same = is.0 ∙ ap (λ (x : Answer). x.0) (none_kept_due d i lacks) in absurd (cc same)
+    ]
+
+pub lacks_kept : (d : ℕ) (a : Asked) → IsAnswered a → a.command ≡ Redact d → a.status ≡ Usage
+    → LacksDomain d a.left a.left' a.old.written a.new.written
+unfolding broken_for
+lacks_kept d a h asked usage =
+    let b : Asked = record a { command = Redact d } in
+    let k : IsAnswered b = as_command a (Redact d) asked h in
+    let few = usage_reads b k tt usage in
+    let (i, found, is) = reads_record b k tt Usage usage_is_found (wrote_as b k Usage usage) few in
+    elim (cases_lt d (length i.domains)) [
+      | inl has ↦
+          let same = is.0 ∙ ap (λ (x : Answer). x.0) (kept_due d i has) in absurd (cc same)
+      | inr lacks ↦
+          let line = ap (λ (x : Answer). after_known a.old.written x.1) (none_kept_due d i lacks) in
+          record {
+            ran = record {
+              bytes = a.items;
+              found = image_from i;
+              took = h.took;
+              whole = k.whole tt few;
+              few = few;
+              read = image_read a.items i found.is found.unbroken;
+            };
+            lacks = omega (arith, lacks, owns_length i);
+            wrote = is.1 ∙ line;
+          }
     ]
 
 -- ---- the image that a seed makes

@@ -1,5 +1,6 @@
 pub mod Accepting
 pub mod Answers
+pub mod Kept
 pub mod Commands
 pub mod Reports
 pub mod Numbers

@@ -12,7 +12,7 @@ use Rattle.hart_orders.proofs.ChoiceLaws.{choice_law, choice_pad, choice_largest
 use Rattle.tp_report.specs.Report.{section_of, report_with, report_of}
 use Rattle.tp_report.specs.Texts.{section}
 use Rattle.tp_report.proofs.ReportLaws.{same_report}
-use Rattle.tp_answer.specs.Runs.{world_after, report, report_apart, section_alone}
+use Rattle.tp_answer.specs.Runs.{world_after, report, report_apart, section_among, section_alone}
 
 module _ (i : Image) (c : Choice) (n : ℕ) (r : Runnable i) where
   -- of each domain what is seen of it alone
@@ -31,6 +31,6 @@ module _ (i : Image) (c : Choice) (n : ℕ) (r : Runnable i) where
 
   -- the section of a domain alone is that of the report
   pub same_section : (d : ℕ) → IsDomain i d
-      → section_alone i d n ≡ section_of i (λ e. view_in i e (world_after i c n)) d
+      → section_alone i d n ≡ section_among i c d n
   unfolding section_alone section_of
   same_section d is = ap (section d (own_of i d).name) (sym (seen_alone d is))

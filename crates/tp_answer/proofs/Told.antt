@@ -8,12 +8,12 @@ use Rattle.guards.specs.declared.Guard.{Guard}
 use Rattle.image_reading.specs.Reading.{most_bytes}
 use Rattle.hart_orders.specs.declared.choice.Choice.TheVariants.{LeastClock, Drawn}
 use Rattle.tp_words.specs.declared.Command.{Command}
-use Rattle.tp_words.specs.declared.Command.TheVariants.{Check, Bound, Run, Alone, Gen, Demo, Ablate, Harts}
+use Rattle.tp_words.specs.declared.Command.TheVariants.{Check, Bound, Run, Alone, Gen, Demo, Ablate, Harts, Redact}
 use Rattle.tp_words.specs.Words.{Reads, IsInRange, command}
 use Rattle.tp_answer.specs.declared.status.Status.{Status}
 use Rattle.tp_answer.specs.declared.status.Status.TheVariants.{Done, Refused, Usage, ReadFault, Memory, TooLong}
-use Rattle.tp_answer.specs.TopCall.{MayBeUsage, IsOver, Refuses, Accepts, Bounds, Isolated, Padded, LacksDomain, WritesSection, SameSection, HasManyHarts, WritesOff, ReadsBack, Generates, Summarizes}
-use Rattle.tp_answer.proofs.Commands.{Asked, IsAnswered, as_command, done_reads, refused_reads, too_long_reads, may_be_usage, refuses, accepts, bounds, ran, harts_ran, is_isolated, is_padded, lacks_domain, writes_section, is_same_section, writes_off, has_many_harts, generates, summarizes}
+use Rattle.tp_answer.specs.TopCall.{MayBeUsage, IsOver, Refuses, Accepts, Bounds, Isolated, Padded, LacksDomain, WritesSection, SameSection, HasManyHarts, WritesOff, KeptReadsBack, Redacts, ReadsBack, Generates, Summarizes}
+use Rattle.tp_answer.proofs.Commands.{Asked, IsAnswered, as_command, done_reads, refused_reads, too_long_reads, may_be_usage, refuses, accepts, bounds, ran, harts_ran, is_isolated, is_padded, lacks_domain, writes_section, is_same_section, writes_off, has_many_harts, redacts, lacks_kept, generates, summarizes}
 
 -- the words aren't both no command and one
 pub unasked : (words : List (List ℕ)) (c : Command) → command words ≡ None → command words ≡ Some c → ⊥
@@ -26,6 +26,8 @@ module _ (words : List (List ℕ)) (status : Status) (left left' old new : Optio
         → LacksDomain d left left' old new
     pub many_harts : (off : Guard) (n : ℕ) → command words ≡ Some (Ablate off n) → status ≡ Usage
         → HasManyHarts left left' old new
+    pub no_kept_domain : (d : ℕ) → command words ≡ Some (Redact d) → status ≡ Usage
+        → LacksDomain d left left' old new
     pub done_reads : (c : Command) → command words ≡ Some c → Reads c → status ≡ Done → AtEnd left'
     pub refused_reads : status ≡ Refused → AtEnd left'
     pub too_long_reads : status ≡ TooLong → IsOver left left'
@@ -45,6 +47,7 @@ module _ (words : List (List ℕ)) (status : Status) (left left' old new : Optio
         → SameSection d n left left' old new
     pub unprotected : (off : Guard) (n : ℕ) → command words ≡ Some (Ablate off n) → status ≡ Done
         → WritesOff off n left left' old new
+    pub redacted : (d : ℕ) → command words ≡ Some (Redact d) → status ≡ Done → Redacts d left left' old new
     pub generated : (s : ℕ) → command words ≡ Some (Gen s) → status ≡ Done → Generates s old new
     pub demo : (s : ℕ) → command words ≡ Some (Demo s) → status ≡ Done → Summarizes s old new
 
@@ -54,6 +57,7 @@ module _ (words : List (List ℕ)) (status : Status) (left left' old new : Optio
     usage = λ e. absurd (usage e);
     no_domain = λ d n is e. absurd (usage e);
     many_harts = λ off n is e. absurd (usage e);
+    no_kept_domain = λ d is e. absurd (usage e);
     done_reads = λ c is reads e. absurd (done e);
     refused_reads = λ e. absurd (refused e);
     too_long_reads = λ e. absurd (over e);
@@ -67,6 +71,7 @@ module _ (words : List (List ℕ)) (status : Status) (left left' old new : Optio
     alone = λ d n is e. absurd (done e);
     same_section = λ d n is e. absurd (done e);
     unprotected = λ off n is e. absurd (done e);
+    redacted = λ d is e. absurd (done e);
     generated = λ s is e. absurd (done e);
     demo = λ s is e. absurd (done e);
   }
@@ -77,6 +82,7 @@ module _ (words : List (List ℕ)) (status : Status) (left left' old new : Optio
     usage = λ e. subst MayBeUsage (sym none) tt;
     no_domain = λ d n is e. absurd (unasked words (Alone d n) none is);
     many_harts = λ off n is e. absurd (unasked words (Ablate off n) none is);
+    no_kept_domain = λ d is e. absurd (unasked words (Redact d) none is);
     done_reads = λ c is reads e. absurd (unasked words c none is);
     refused_reads = λ e. absurd (refused e);
     too_long_reads = λ e. absurd (over e);
@@ -90,6 +96,7 @@ module _ (words : List (List ℕ)) (status : Status) (left left' old new : Optio
     alone = λ d n is e. absurd (unasked words (Alone d n) none is);
     same_section = λ d n is e. absurd (unasked words (Alone d n) none is);
     unprotected = λ off n is e. absurd (unasked words (Ablate off n) none is);
+    redacted = λ d is e. absurd (unasked words (Redact d) none is);
     generated = λ s is e. absurd (unasked words (Gen s) none is);
     demo = λ s is e. absurd (unasked words (Demo s) none is);
   }
@@ -113,13 +120,15 @@ held_none result e is held failed = cc (is, held, failed)
 pub answered_tells : (words : List (List ℕ)) (a : Asked) (h : IsAnswered a) → command words ≡ Some a.command
     → length a.items ≤ most_bytes + 1 → IsInRange a.command
     → ((s : ℕ) → a.command ≡ Gen s → a.status ≡ Done → ReadsBack s)
+    → ((d : ℕ) → a.command ≡ Redact d → a.status ≡ Done → KeptReadsBack d a.items)
     → Tells words a.status a.left a.left' a.old.written a.new.written
-answered_tells words a h asked most range back =
+answered_tells words a h asked most range back kept_back =
     let named : (c : Command) → command words ≡ Some c → a.command ≡ c = λ c is. same_Some _ _ (sym asked ∙ is) in
     record {
       usage = λ e. subst MayBeUsage (sym asked) (may_be_usage a h e);
       no_domain = λ d n is e. lacks_domain d n a h (named (Alone d n) is) e;
       many_harts = λ off n is e. has_many_harts off n a h (named (Ablate off n) is) e;
+      no_kept_domain = λ d is e. lacks_kept d a h (named (Redact d) is) e;
       done_reads = λ c is reads e.
           let own : Reads a.command = subst Reads (sym (named c is)) reads in h.whole own (done_reads a h own e);
       refused_reads = λ e. let (reads, few) = refused_reads a h e in h.whole reads few;
@@ -139,6 +148,7 @@ answered_tells words a h asked most range back =
       same_section = λ d n is e.
           is_same_section d n a.left a.left' a.old.written a.new.written (writes_section d n a h (named (Alone d n) is) e);
       unprotected = λ off n is e. writes_off off n a h (named (Ablate off n) is) e;
+      redacted = λ d is e. let own = named (Redact d) is in redacts d a h own e (kept_back d own e);
       generated = λ s is e.
           let own = named (Gen s) is in
           let small : IsInRange (Gen s) = subst IsInRange own range in

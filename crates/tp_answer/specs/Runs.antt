@@ -2,6 +2,7 @@
 use Rattle.std.specs.Prelude.{ℕ, List}
 use Rattle.image_check.specs.Image.{Image}
 use Rattle.world_view.specs.Machine.{World}
+use Rattle.world_view.specs.View.{view_in}
 use Rattle.world_view.specs.Harts.{view_alone_on}
 use Rattle.hart_orders.specs.Order.{ran}
 use Rattle.hart_orders.specs.declared.choice.Choice.{Choice}
@@ -17,6 +18,10 @@ report i c n = report_of i (world_after i c n)
 -- the report in which each section is that of its domain alone, by the entries of its hart
 unfoldable pub report_apart : Image → Choice → ℕ → List ℕ
 report_apart i c n = report_with i (λ d. view_alone_on i d n) (world_after i c n).used
+
+-- the section of domain d in the report
+abbrev pub section_among : Image → Choice → ℕ → ℕ → List ℕ
+section_among i c d n = section_of i (λ e. view_in i e (world_after i c n)) d
 
 -- the section of domain d, alone after n slots of its hart
 unfoldable pub section_alone : Image → ℕ → ℕ → List ℕ

@@ -13,6 +13,8 @@ use Rattle.image_gen.specs.Text.{text as generated_text}
 use Rattle.image_check.specs.Checking.{broken, broken_but_pads}
 use Rattle.image_check.specs.Image.{Image, image_from}
 use Rattle.image_reading.specs.Reading.{most_bytes, image}
+use Rattle.image_redact.specs.Redacted.{redacted}
+use Rattle.image_writing.specs.Text.{text_of}
 use Rattle.sched_table.specs.Schedule.{entry_in, harts_in}
 use Rattle.world_view.specs.Machine.{clock_of}
 use Rattle.world_view.specs.View.{view_in}
@@ -21,15 +23,15 @@ use Rattle.world_view.specs.HartLaws.{AreHartsOf}
 use Rattle.world_view.specs.Relations.{IsDomain, AllWithinPads}
 use Rattle.world_view.specs.Used.{largest_of}
 use Rattle.hart_orders.specs.declared.choice.Choice.{Choice}
-use Rattle.tp_report.specs.Report.{report_off, section_of, bounds_of, accepted_text, usage_text, refusal_text}
+use Rattle.tp_report.specs.Report.{report_off, bounds_of, accepted_text, usage_text, refusal_text}
 use Rattle.tp_report.specs.Demo.{demo_text}
 use Rattle.tp_words.specs.declared.Command.{Command}
-use Rattle.tp_words.specs.declared.Command.TheVariants.{Alone, Ablate}
+use Rattle.tp_words.specs.declared.Command.TheVariants.{Alone, Ablate, Redact}
 use Rattle.tp_answer.specs.declared.status.Status.{Status}
 use Rattle.tp_answer.specs.declared.status.Status.TheVariants.{Usage, ReadFault, WriteFault, Memory}
 use Rattle.tp_answer.specs.Reading.{broken_in}
 use Rattle.tp_words.specs.Words.{Reads, command}
-use Rattle.tp_answer.specs.Runs.{world_after, report_apart, section_alone}
+use Rattle.tp_answer.specs.Runs.{world_after, report_apart, section_among, section_alone}
 use Rattle.tp_answer.specs.Answer.{Answer, answer}
 
 -- ---- what is written
@@ -54,6 +56,7 @@ abbrev pub MayBeUsage : Option Command → Type 0
 MayBeUsage None = ⊤
 MayBeUsage (Some (Alone d n)) = ⊤
 MayBeUsage (Some (Ablate off n)) = ⊤
+MayBeUsage (Some (Redact d)) = ⊤
 MayBeUsage (Some _) = ⊥
 
 -- no read failed: the answer that is due was written, unless memory ran out or the sink failed,
@@ -166,8 +169,7 @@ pub record WritesSection (d slots : ℕ) (left left' written written' : Option (
 pub record SameSection (d slots : ℕ) (left left' written written' : Option (List ℕ)) : Type 0 where
   pub ran : ReadsImage left left'
   pub domain : IsDomain ran.found d
-  pub wrote : (c : Choice) → written' ≡ after_known written
-      (section_of ran.found (λ e. view_in ran.found e (world_after ran.found c slots)) d)
+  pub wrote : (c : Choice) → written' ≡ after_known written (section_among ran.found c d slots)
 
 -- ---- a run with a guard off
 
@@ -182,6 +184,29 @@ pub record WritesOff (off : Guard) (slots : ℕ) (left left' written written' : 
   pub ran : ReadsImage left left'
   pub one : harts_in ran.found.all.schedule ≡ 1
   pub wrote : written' ≡ after_known written (report_off off ran.found slots)
+
+-- ---- the image as the tenant of a domain may hold it
+
+-- where bytes are an image, what the tenant of domain d may hold of it reads back, as it is written
+abbrev pub KeptReadsBack : ℕ → List ℕ → Type 0
+KeptReadsBack d bytes =
+    (i : text.Raw) → image_of bytes ≡ Ok i → broken i ≡ [] → image_of (text_of (redacted i d)) ≡ Ok (redacted i d)
+
+-- the image breaks no rule and has domain d, and what was written reads as the record that its tenant may hold; that one
+-- breaks no rule, either, and has the same section of the domain, alone and in the report
+pub record Redacts (d : ℕ) (left left' written written' : Option (List ℕ)) : Type 0 where
+  pub all : ReadsAll left left'
+  pub record_of : text.Raw
+  pub read : image_of all.bytes ≡ Ok record_of
+  pub unbroken : broken record_of ≡ []
+  pub domain : d < length record_of.domains
+  pub wrote : written' ≡ after_known written (text_of (redacted record_of d))
+  pub reads_back : image_of (text_of (redacted record_of d)) ≡ Ok (redacted record_of d)
+  pub accepted : broken (redacted record_of d) ≡ []
+  pub same_alone : (slots : ℕ)
+      → section_alone (image_from (redacted record_of d)) d slots ≡ section_alone (image_from record_of) d slots
+  pub same_among : (c : Choice) (slots : ℕ)
+      → section_among (image_from (redacted record_of d)) c d slots ≡ section_among (image_from record_of) c d slots
 
 -- ---- the image that a seed makes
 

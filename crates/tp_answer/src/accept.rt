@@ -1,15 +1,15 @@
 // The image that bytes are, or the rule that it breaks, and the answers that need no more than that.
-ghost use Rattle.std.specs.Prelude.{◌≡◌, ℕ, Result, length, OnOk, OnErr};
+ghost use Rattle.std.specs.Prelude.{◌≡◌, ◌≢◌, ℕ, Result, length, OnOk, OnErr};
 ghost use Rattle.tp_io.specs.Sink.{state};
 ghost use Rattle.guards.specs.declared.Guard.{Guard};
 ghost use Rattle.image_record.specs.declared.refusal.Refusal.{Refusal};
+ghost use Rattle.image_record.specs.Record.{Raw};
 ghost use Rattle.image_check.specs.Own.{owns_of};
-ghost use Rattle.image_check.specs.Image.{Image};
 ghost use Rattle.tp_words.specs.declared.Command.{Command};
 ghost use Rattle.tp_answer.specs.Answer as spec;
 ghost use Rattle.tp_answer.specs.TopCall.{Delivers};
 ghost use Rattle.tp_answer.specs.Accepting.{Accepting, IsRefused};
-ghost use Rattle.tp_answer.specs.Reading.{image_for};
+ghost use Rattle.tp_answer.specs.Reading.{record_for};
 
 use crate::Status;
 use crate::bounds::write_bounds;
@@ -22,7 +22,7 @@ use tp_report::{write_accepted, write_refusal};
 /// Answers whether the image that bytes are breaks no rule.
 pub fn answer_check<K: Sink>(alloc: Global, bytes: &[u8], out: &mut K) -> Status
     ensures delivers { Delivers
-        (spec.answer_unless_broken Command.Check (image_for Command.Check bytes.now))
+        (spec.answer_unless_broken Command.Check (record_for Command.Check bytes.now))
         result (state K.Sink out.old) (state K.Sink out.new) }
 {
     match accepted(alloc, bytes) {
@@ -37,7 +37,7 @@ pub fn answer_check<K: Sink>(alloc: Global, bytes: &[u8], out: &mut K) -> Status
 /// Answers the bound of the image that bytes are, where it breaks no rule but that of pads.
 pub fn answer_bound<K: Sink>(alloc: Global, bytes: &[u8], out: &mut K) -> Status
     ensures delivers { Delivers
-        (spec.answer_unless_broken Command.Bound (image_for Command.Bound bytes.now))
+        (spec.answer_unless_broken Command.Bound (record_for Command.Bound bytes.now))
         result (state K.Sink out.old) (state K.Sink out.new) }
 {
     match accepted_but_pads(alloc, bytes) {
@@ -52,8 +52,9 @@ pub fn answer_bound<K: Sink>(alloc: Global, bytes: &[u8], out: &mut K) -> Status
 
 /// Names the rule that is broken, unless memory ran out.
 pub fn refuse<K: Sink>(refusal: &CheckRefusal, out: &mut K) -> Status
-    ensures delivers { (c : Command) (found : Result Image Refusal) → IsRefused refusal.now found
+    ensures delivers { (c : Command) (found : Result Raw Refusal) → IsRefused refusal.now found
         → Delivers (spec.answer_unless_broken c found) result (state K.Sink out.old) (state K.Sink out.new) }
+    ensures never_done { result ≢ Status.Done }
 {
     match refusal {
         CheckRefusal::Memory => Status::Memory,
@@ -64,14 +65,15 @@ pub fn refuse<K: Sink>(refusal: &CheckRefusal, out: &mut K) -> Status
 }
 
 /// The image that bytes are, where it breaks no rule.
-#[tactic(auto, unfolding(crate::specs::Reading::image_for, crate::specs::Reading::checked_for))]
+#[tactic(auto, unfolding(crate::specs::Reading::record_for, crate::specs::Reading::checked_for))]
 pub fn accepted(alloc: Global, bytes: &[u8]) -> Result<Checked, CheckRefusal>
-    ensures check { Accepting result (image_for Command.Check bytes.now) }
-    ensures run { (slots : ℕ) → Accepting result (image_for (Command.Run slots) bytes.now) }
-    ensures alone { (d slots : ℕ) → Accepting result (image_for (Command.Alone d slots) bytes.now) }
+    ensures check { Accepting result (record_for Command.Check bytes.now) }
+    ensures run { (slots : ℕ) → Accepting result (record_for (Command.Run slots) bytes.now) }
+    ensures alone { (d slots : ℕ) → Accepting result (record_for (Command.Alone d slots) bytes.now) }
     ensures ablate { (off : Guard) (slots : ℕ)
-        → Accepting result (image_for (Command.Ablate off slots) bytes.now) }
-    ensures harts { (slots seed : ℕ) → Accepting result (image_for (Command.Harts slots seed) bytes.now) }
+        → Accepting result (record_for (Command.Ablate off slots) bytes.now) }
+    ensures harts { (slots seed : ℕ) → Accepting result (record_for (Command.Harts slots seed) bytes.now) }
+    ensures redact { (d : ℕ) → Accepting result (record_for (Command.Redact d) bytes.now) }
 {
     match read_image(alloc, bytes) {
         Ok(raw) => check(alloc, raw),
@@ -80,9 +82,9 @@ pub fn accepted(alloc: Global, bytes: &[u8]) -> Result<Checked, CheckRefusal>
 }
 
 // The image that bytes are, where it breaks no rule but that of pads.
-#[tactic(auto, unfolding(crate::specs::Reading::image_for, crate::specs::Reading::checked_for))]
+#[tactic(auto, unfolding(crate::specs::Reading::record_for, crate::specs::Reading::checked_for))]
 fn accepted_but_pads(alloc: Global, bytes: &[u8]) -> Result<Unpadded, CheckRefusal>
-    ensures accepts { Accepting result (image_for Command.Bound bytes.now) }
+    ensures accepts { Accepting result (record_for Command.Bound bytes.now) }
 {
     match read_image(alloc, bytes) {
         Ok(raw) => check_but_pads(alloc, raw),

@@ -4,8 +4,10 @@
 mod accept;
 mod bounds;
 mod generate;
+mod redact;
 mod status;
 
 pub use accept::{accepted, answer_bound, answer_check, domains_of, refuse, status_unless_failed};
 pub use generate::{generated_image, write_generated};
+pub use redact::answer_redact;
 pub use status::Status;

@@ -8,15 +8,15 @@ use Rattle.hart_orders.specs.declared.choice.Choice.TheVariants.{LeastClock, Dra
 use Rattle.tp_io.specs.Sends.{SinkState, Sent}
 use Rattle.tp_report.specs.Report.{usage_text}
 use Rattle.tp_words.specs.declared.Command.{Command}
-use Rattle.tp_words.specs.declared.Command.TheVariants.{Check, Bound, Run, Alone, Gen, Demo, Ablate, Harts}
+use Rattle.tp_words.specs.declared.Command.TheVariants.{Check, Bound, Run, Alone, Gen, Demo, Ablate, Harts, Redact}
 use Rattle.tp_answer.specs.declared.status.Status.{Status}
 use Rattle.tp_answer.specs.declared.status.Status.TheVariants.{Done, Refused, Usage, ReadFault, WriteFault, Memory, TooLong}
 use Rattle.tp_answer.specs.Status.{exit_number}
 use Rattle.tp_answer.specs.Answer.{Answer, answer_by, answer_of_bytes}
-use Rattle.tp_answer.specs.TopCall.{Delivers, Refuses, Accepts, Bounds, Isolated, Padded, LacksDomain, HasManyHarts, WritesSection, SameSection, WritesOff, ReadsBack, Generates, Summarizes}
+use Rattle.tp_answer.specs.TopCall.{Delivers, Refuses, Accepts, Bounds, Isolated, Padded, LacksDomain, HasManyHarts, WritesSection, SameSection, WritesOff, KeptReadsBack, Redacts, ReadsBack, Generates, Summarizes}
 use Rattle.tp_answer.proofs.Answers.{HasText, delivered}
-use Rattle.tp_answer.proofs.Commands.{Asked, IsAnswered, answering, ran, harts_ran, is_isolated, is_padded, refuses, accepts, bounds, lacks_domain, writes_section, is_same_section, writes_off, has_many_harts, generates, summarizes}
-use Rattle.tp_lib.specs.Asked.{if_slots, ask_run, ask_harts, ask_alone, ask_ablate, guard_numbered}
+use Rattle.tp_answer.proofs.Commands.{Asked, IsAnswered, answering, ran, harts_ran, is_isolated, is_padded, refuses, accepts, bounds, lacks_domain, writes_section, is_same_section, writes_off, has_many_harts, redacts, lacks_kept, generates, summarizes}
+use Rattle.tp_lib.specs.Asked.{if_slots, ask_run, ask_harts, ask_alone, ask_redact, ask_ablate, guard_numbered}
 use Rattle.tp_lib.specs.Answers.{Answers, InMemory}
 
 -- ---- the status that a number tells
@@ -112,6 +112,14 @@ module _ (image : List ℕ) (number taken : ℕ) (old new : List ℕ) where
       absurd (other (sym (ap (λ (a : Answer). a.0) (due_is (Usage, usage_text) number taken old new answers s has is))))
   answered_if c (Some k) asks answers s has other is =
       subst (λ (j : Command). IsAnswered (call_of j image s (take taken new))) asks (answered_as k answers s has is)
+
+  -- what was done was asked for
+  asked_done : (c : Command) (asked : Option Command) → IfSome asked (λ k. k ≡ c)
+      → Answers (answer_by asked image) number taken old new → number ≡ 0 → asked ≡ Some c
+  unfolding answer_by
+  asked_done c None asks answers is =
+      let e = ap (λ (a : Answer). a.0) (due_is (Usage, usage_text) number taken old new answers Done tt is) in absurd (cc e)
+  asked_done c (Some k) asks answers is = ap Some asks
 
   -- ---- of any command: the rule that is broken
 
@@ -222,6 +230,35 @@ module _ (image : List ℕ) (number taken : ℕ) (old new : List ℕ) where
       let own = subst (λ (asked : Option Command). Answers (answer_by asked image) number taken old new)
       (in_range_alone d n domain few) answers in
       lacks_domain d n (call_of (Alone d n) image Usage (take taken new)) (answered_as (Alone d n) own Usage tt is) refl refl
+
+  -- ---- the image as the tenant of a domain may hold it
+
+  asks_redact : (d : ℕ) (b : Bool) → IfSome (if b then Some (Redact d) else None) (λ k. k ≡ Redact d)
+  asks_redact d true = refl
+  asks_redact d false = tt
+
+  pub redact_refused : (d : ℕ) → Answers (answer_by (ask_redact d) image) number taken old new → number ≡ 1
+      → InMemory (Refuses (Redact d)) image taken new
+  redact_refused d = refused_if (Redact d) (ask_redact d) (asks_redact d (nat_le d 31))
+
+  in_range_redact : (d : ℕ) → d ≤ 31 → ask_redact d ≡ Some (Redact d)
+  in_range_redact d domain = let test : nat_le d 31 ≡ true = grind (arith, nat_tests) in rw test refl
+
+  pub redact_lacks : (d : ℕ) → d ≤ 31 → Answers (answer_by (ask_redact d) image) number taken old new
+      → number ≡ 2 → InMemory (LacksDomain d) image taken new
+  redact_lacks d domain answers is =
+      let own = subst (λ (asked : Option Command). Answers (answer_by asked image) number taken old new)
+      (in_range_redact d domain) answers in
+      lacks_kept d (call_of (Redact d) image Usage (take taken new)) (answered_as (Redact d) own Usage tt is) refl refl
+
+  pub redact_done : (d : ℕ) → Answers (answer_by (ask_redact d) image) number taken old new
+      → (ask_redact d ≡ Some (Redact d) → number ≡ 0 → KeptReadsBack d image) → number ≡ 0
+      → InMemory (Redacts d) image taken new
+  redact_done d answers back is =
+      let asks = asks_redact d (nat_le d 31) in
+      redacts d (call_of (Redact d) image Done (take taken new))
+      (answered_if (Redact d) (ask_redact d) asks answers Done tt (λ e. cc e) is) refl refl
+      (back (asked_done (Redact d) (ask_redact d) asks answers is) is)
 
   -- ---- a run with a guard off
 

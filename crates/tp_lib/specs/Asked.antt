@@ -4,7 +4,7 @@ use Rattle.std.specs.Prelude.{ℕ, nat_le, if◌then◌else◌, [], ◌∷◌, O
 use Rattle.guards.specs.declared.Guard.{Guard}
 use Rattle.guards.specs.declared.Guard.TheVariants.{Flush, Prefetch, Pad, Colour, Clone, Irq}
 use Rattle.tp_words.specs.declared.Command.{Command}
-use Rattle.tp_words.specs.declared.Command.TheVariants.{Run, Alone, Ablate, Harts}
+use Rattle.tp_words.specs.declared.Command.TheVariants.{Run, Alone, Ablate, Harts, Redact}
 
 -- a command of so many slots
 abbrev pub if_slots : ℕ → Command → Option Command
@@ -18,6 +18,9 @@ ask_harts slots seed = if_slots slots (Harts slots seed)
 
 abbrev pub ask_alone : ℕ → ℕ → Option Command
 ask_alone domain slots = if nat_le domain 31 then if_slots slots (Alone domain slots) else None
+
+abbrev pub ask_redact : ℕ → Option Command
+ask_redact domain = if nat_le domain 31 then Some (Redact domain) else None
 
 -- the guard of a number
 abbrev pub guard_numbered : ℕ → Option Guard

@@ -4,7 +4,7 @@ ghost use Rattle.tp_io.specs.Sink.{state};
 ghost use Rattle.tp_words.specs.declared.Command.{Command};
 ghost use Rattle.tp_words.specs.Words.{IsInRange, Reads};
 ghost use Rattle.tp_answer.specs.Answer as spec;
-ghost use Rattle.tp_answer.specs.TopCall.{Delivers, ReadsBack, Writes};
+ghost use Rattle.tp_answer.specs.TopCall.{Delivers, KeptReadsBack, ReadsBack, Writes};
 ghost use Rattle.tp_lib.specs.Answers.{Answers};
 
 use crate::text_sink::TextSink;
@@ -34,6 +34,8 @@ pub fn answer(
     requires none { IfSome asked (λ c. ¬ Reads c → image.now ≡ []) }
     ensures answers { Answers (spec.answer_by asked image.now) result taken.new text.old text.new }
     ensures reads_back { (seed : ℕ) → asked ≡ Some (Command.Gen seed) → result ≡ 0 → ReadsBack seed }
+    ensures kept_reads_back { (d : ℕ) → asked ≡ Some (Command.Redact d) → result ≡ 0
+        → KeptReadsBack d image.now }
 {
     let mut sink = TextSink::new(alloc);
     let status = answer_asked(alloc, asked, image, &mut sink);
@@ -48,6 +50,8 @@ fn answer_asked<K: Sink>(alloc: Global, asked: Option<Command>, image: &[u8], ou
         result (state K.Sink out.old) (state K.Sink out.new) }
     ensures reads_back { (seed : ℕ) → asked ≡ Some (Command.Gen seed) → result ≡ Status.Done
         → ReadsBack seed }
+    ensures kept_reads_back { (d : ℕ) → asked ≡ Some (Command.Redact d) → result ≡ Status.Done
+        → KeptReadsBack d image.now }
 {
     match asked {
         Some(command) => answer_bytes(alloc, command, image, out),

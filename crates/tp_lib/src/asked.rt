@@ -49,6 +49,18 @@ pub fn ask_alone(domain: u32, slots: u32) -> Option<Command>
     Some(Command::Alone { domain, slots })
 }
 
+/// The image as the tenant of a domain may hold it.
+pub fn ask_redact(domain: u32) -> Option<Command>
+    ensures asked { result ≡ spec.ask_redact domain }
+    ensures range { IfSome result IsInRange }
+{
+    if domain > LAST_DOMAIN {
+        return None;
+    }
+    let domain = domain as u8;
+    Some(Command::Redact { domain })
+}
+
 /// A run of so many slots with the guard of this number off.
 pub fn ask_ablate(off: u32, slots: u32) -> Option<Command>
     ensures asked { result ≡ spec.ask_ablate off slots }

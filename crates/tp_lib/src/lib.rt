@@ -9,8 +9,8 @@ ghost use Rattle.hart_orders.specs.declared.choice.Choice.TheVariants.{LeastCloc
 ghost use Rattle.tp_answer.specs.Answer.{answer_by};
 ghost use Rattle.tp_answer.specs.TopCall.{Isolated, Padded, Refuses, Accepts, Bounds};
 ghost use Rattle.tp_answer.specs.TopCall.{LacksDomain, HasManyHarts, WritesSection, SameSection, WritesOff};
-ghost use Rattle.tp_answer.specs.TopCall.{Generates, Summarizes};
-ghost use Rattle.tp_words.specs.declared.Command.TheVariants.{Check, Bound, Run, Alone, Gen, Demo, Ablate, Harts};
+ghost use Rattle.tp_answer.specs.TopCall.{Redacts, Generates, Summarizes};
+ghost use Rattle.tp_words.specs.declared.Command.TheVariants.{Check, Bound, Run, Alone, Gen, Demo, Ablate, Harts, Redact};
 ghost use Rattle.tp_lib.specs.Asked as spec;
 ghost use Rattle.tp_lib.specs.Answers.{Answers, InMemory};
 
@@ -19,7 +19,7 @@ mod asked;
 mod text_sink;
 
 use crate::answer::answer;
-use crate::asked::{ask_ablate, ask_alone, ask_harts, ask_run};
+use crate::asked::{ask_ablate, ask_alone, ask_harts, ask_redact, ask_run};
 use std::alloc::Global;
 use tp_words::Command;
 
@@ -131,6 +131,25 @@ pub extern "C" fn tp_ablate(
         → InMemory (WritesOff guard slots) image.now taken.new text.new }
 {
     answer(alloc, ask_ablate(off, slots), image, text, taken)
+}
+
+/// Writes the image as the tenant of one of its domains, 0 to 31, may hold it.
+#[unsafe(no_mangle)]
+pub extern "C" fn tp_redact(
+    alloc: Global,
+    image: &[u8],
+    domain: u32,
+    text: &mut [u8],
+    taken: &mut usize,
+) -> u32
+    ensures answers { Answers (answer_by (spec.ask_redact domain) image.now) result taken.new text.old text.new }
+    ensures refused { result ≡ 1 → InMemory (Refuses (Redact domain)) image.now taken.new text.new }
+    ensures no_domain { domain ≤ 31 → result ≡ 2 → InMemory (LacksDomain domain) image.now taken.new text.new }
+
+    // It reads as that record, which breaks no rule and has the same section of the domain.
+    ensures redacted { result ≡ 0 → InMemory (Redacts domain) image.now taken.new text.new }
+{
+    answer(alloc, ask_redact(domain), image, text, taken)
 }
 
 /// Writes the image that the seed makes.

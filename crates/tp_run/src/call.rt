@@ -10,8 +10,8 @@ ghost use Rattle.tp_answer.specs.TopCall.{Writes, EndsUsage, Delivers, ComesTo, 
 ghost use Rattle.tp_answer.specs.TopCall.{Isolated, Padded, MayBeUsage};
 ghost use Rattle.tp_answer.specs.TopCall.{Refuses, Accepts, Bounds};
 ghost use Rattle.tp_answer.specs.TopCall.{LacksDomain, HasManyHarts, WritesSection, SameSection, WritesOff};
-ghost use Rattle.tp_answer.specs.TopCall.{ReadsBack, Generates, Summarizes};
-ghost use Rattle.tp_answer.specs.Reading.{image_for};
+ghost use Rattle.tp_answer.specs.TopCall.{KeptReadsBack, Redacts, ReadsBack, Generates, Summarizes};
+ghost use Rattle.tp_answer.specs.Reading.{record_for};
 ghost use Rattle.tp_words.specs.Words.{IsInRange, Reads, command, words_of};
 
 use crate::alone::run_domain;
@@ -22,8 +22,8 @@ use guards::Guard;
 use hart_orders::Choice;
 use std::alloc::Global;
 use tp_answer::{
-    Status, accepted, answer_bound, answer_check, domains_of, refuse, status_unless_failed,
-    write_generated,
+    Status, accepted, answer_bound, answer_check, answer_redact, domains_of, refuse,
+    status_unless_failed, write_generated,
 };
 use tp_base::Memory;
 use tp_io::{ReadError, Sink, Source, read_within};
@@ -68,6 +68,9 @@ pub fn tp_main<S: Source, K: Sink>(
     ensures many_harts { (off : Guard) (slots : ℕ)
         → command (words_of words.now) ≡ Some (Command.Ablate off slots) → result ≡ Status.Usage
         → HasManyHarts (S.left src.old) (S.left src.new) (K.written out.old) (K.written out.new) }
+    ensures no_kept_domain { (d : ℕ)
+        → command (words_of words.now) ≡ Some (Command.Redact d) → result ≡ Status.Usage
+        → LacksDomain d (S.left src.old) (S.left src.new) (K.written out.old) (K.written out.new) }
 
     // What is read, and that words that name a seed leave the source as it was.
     ensures done_reads { (c : Command) → command (words_of words.now) ≡ Some c → Reads c
@@ -135,6 +138,12 @@ pub fn tp_main<S: Source, K: Sink>(
         → command (words_of words.now) ≡ Some (Command.Ablate off slots) → result ≡ Status.Done
         → WritesOff off slots (S.left src.old) (S.left src.new) (K.written out.old) (K.written out.new) }
 
+    // The image as the tenant of a domain may hold it: a text that reads as that record, which breaks no rule and has
+    // the same section of the domain.
+    ensures redacted { (d : ℕ)
+        → command (words_of words.now) ≡ Some (Command.Redact d) → result ≡ Status.Done
+        → Redacts d (S.left src.old) (S.left src.new) (K.written out.old) (K.written out.new) }
+
     // The image that a seed makes, as a text that reads as its record; and the summary of its run.
     ensures generated { (seed : ℕ)
         → command (words_of words.now) ≡ Some (Command.Gen seed) → result ≡ Status.Done
@@ -180,6 +189,8 @@ pub fn answer_bytes<K: Sink>(alloc: Global, command: Command, bytes: &[u8], out:
     ensures delivers { Delivers (spec.answer_of_bytes command bytes.now)
         result (state K.Sink out.old) (state K.Sink out.new) }
     ensures reads_back { (seed : ℕ) → command ≡ Command.Gen seed → result ≡ Status.Done → ReadsBack seed }
+    ensures kept_reads_back { (d : ℕ) → command ≡ Command.Redact d → result ≡ Status.Done
+        → KeptReadsBack d bytes.now }
 {
     if bytes.len() > MOST_BYTES {
         return status_unless_failed(Status::TooLong, write_too_long(out));
@@ -195,6 +206,7 @@ pub fn answer_bytes<K: Sink>(alloc: Global, command: Command, bytes: &[u8], out:
         Command::Harts { slots, seed } => {
             answer_run(alloc, bytes, Choice::Drawn(seed), slots, out)
         }
+        Command::Redact { domain } => answer_redact(alloc, bytes, domain, out),
     }
 }
 
@@ -208,10 +220,10 @@ fn answer_run<K: Sink>(
 ) -> Status
     requires few { slots ≤ 65536 }
     ensures run { choice ≡ Choice.LeastClock → Delivers
-        (spec.answer_unless_broken (Command.Run slots) (image_for (Command.Run slots) bytes.now))
+        (spec.answer_unless_broken (Command.Run slots) (record_for (Command.Run slots) bytes.now))
         result (state K.Sink out.old) (state K.Sink out.new) }
     ensures harts { (seed : ℕ) → choice ≡ Choice.Drawn seed → Delivers
-        (spec.answer_unless_broken (Command.Harts slots seed) (image_for (Command.Harts slots seed) bytes.now))
+        (spec.answer_unless_broken (Command.Harts slots seed) (record_for (Command.Harts slots seed) bytes.now))
         result (state K.Sink out.old) (state K.Sink out.new) }
 {
     match accepted(alloc, bytes) {
@@ -228,7 +240,7 @@ fn answer_run<K: Sink>(
 fn answer_alone<K: Sink>(alloc: Global, bytes: &[u8], domain: u8, slots: u32, out: &mut K) -> Status
     requires few { slots ≤ 65536 }
     ensures delivers { Delivers (spec.answer_unless_broken
-        (Command.Alone domain slots) (image_for (Command.Alone domain slots) bytes.now))
+        (Command.Alone domain slots) (record_for (Command.Alone domain slots) bytes.now))
         result (state K.Sink out.old) (state K.Sink out.new) }
 {
     match accepted(alloc, bytes) {
@@ -250,7 +262,7 @@ fn answer_alone<K: Sink>(alloc: Global, bytes: &[u8], domain: u8, slots: u32, ou
 fn answer_off<K: Sink>(alloc: Global, bytes: &[u8], off: Guard, slots: u32, out: &mut K) -> Status
     requires few { slots ≤ 65536 }
     ensures delivers { Delivers (spec.answer_unless_broken
-        (Command.Ablate off slots) (image_for (Command.Ablate off slots) bytes.now))
+        (Command.Ablate off slots) (record_for (Command.Ablate off slots) bytes.now))
         result (state K.Sink out.old) (state K.Sink out.new) }
 {
     match accepted(alloc, bytes) {

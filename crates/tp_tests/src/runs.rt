@@ -14,6 +14,7 @@ use tp_run::{Status, tp_main};
 mod refusals;
 mod rules;
 mod seeds;
+mod tenants;
 
 // Prints A, or B, and exits; or jumps to itself.
 //

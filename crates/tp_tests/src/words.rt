@@ -8,7 +8,7 @@ use tp_words::{Command, parse};
 // A line, a bar, and what it asks for, if anything: a number of slots asks for a run, and
 // a domain's number before it for that domain alone, a guard before it for a run without that
 // guard; a seed has its command before it, and so have the slots and the seed of an order of
-// harts.
+// harts, and the domain whose tenant may hold an image.
 const LINES: &str = "tp check|check
 tp bound|bound
 tp run --slots 4|4
@@ -45,6 +45,9 @@ tp harts --slots 4 --seed 7|harts 4 7
 tp harts --seed 7 --slots 4|harts 4 7
 tp harts --slots=65536 --seed=4294967295|harts 65536 4294967295
 tp harts --slots +0 --seed=-0|harts 0 0
+tp redact --domain 1|redact 1
+tp redact --domain=31|redact 31
+tp redact --domain=-0|redact 0
 |
 tp|
 tp fly|
@@ -145,6 +148,18 @@ tp harts 4 7|
 tp harts --help|
 tp help harts|
 tp hart --slots 4 --seed 7|
+tp redact|
+tp redact --domain|
+tp redact --domain 32|
+tp redact --domain -1|
+tp redact --domain x|
+tp redact --domain 1 --domain 1|
+tp redact --domain 1 --slots 4|
+tp redact --domain 1 2|
+tp redact --slots 4|
+tp redact 1|
+tp redact --help|
+tp help redact|
 tp run --slots 4 --seed 7|
 tp run --off flush --slots 4|
 tp --off flush --slots 4|
@@ -179,6 +194,9 @@ fn wanted_of_numbers(asked: &str) -> Option<Command> {
     let number = last.parse::<u32>().ok()?;
     match first {
         "gen" => Some(Command::Gen { seed: number }),
+        "redact" => Some(Command::Redact {
+            domain: last.parse::<u8>().ok()?,
+        }),
         "demo" => Some(Command::Demo { seed: number }),
         "flush" => without(Guard::Flush, number),
         "prefetch" => without(Guard::Prefetch, number),

@@ -11,7 +11,7 @@ use Rattle.clap.specs.declared.builder.value_parser.ValueParser.TheVariants as v
 use Rattle.guards.specs.declared.Guard.{Guard}
 use Rattle.guards.specs.Names.{named}
 use Rattle.tp_words.specs.declared.Command.{Command}
-use Rattle.tp_words.specs.declared.Command.TheVariants.{Check, Bound, Run, Alone, Gen, Demo, Ablate, Harts}
+use Rattle.tp_words.specs.declared.Command.TheVariants.{Check, Bound, Run, Alone, Gen, Demo, Ablate, Harts, Redact}
 use Rattle.tp_words.specs.Partial.{◌>>=◌, ◌>>◌, when}
 
 -- ---- the program's command
@@ -56,6 +56,9 @@ ablate_app = with_rule (with_rule (new_app (codes "ablate")) off_rule) slots_rul
 abbrev pub harts_app : App
 harts_app = with_rule (with_rule (new_app (codes "harts")) slots_rule) seed_rule
 
+abbrev pub redact_app : App
+redact_app = with_rule (new_app (codes "redact")) domain_rule
+
 -- one that makes its image of a seed
 abbrev pub seed_app : Text → App
 seed_app name = with_rule (new_app name) seed_rule
@@ -75,6 +78,7 @@ tp_app = fold with_subcommand (on_top required (new_app (codes "tp"))) (
     ∷ (seed_app (codes "demo")).top
     ∷ ablate_app.top
     ∷ harts_app.top
+    ∷ redact_app.top
     ∷ [])
 
 -- ---- what its matches ask for
@@ -128,6 +132,7 @@ asked_by name rows =
     else if bytes_eq name (codes "demo") then Some (Demo (seed_in rows))
     else if bytes_eq name (codes "ablate") then option_map (λ off. Ablate off (slots_in rows)) (guard_in rows)
     else if bytes_eq name (codes "harts") then Some (Harts (slots_in rows) (seed_in rows))
+    else if bytes_eq name (codes "redact") then Some (Redact (domain_in rows))
     else Some never_asked
 
 abbrev pub asked_for : Option (Text × List Row) → Option Command
@@ -160,6 +165,7 @@ IsInRange (Gen s) = s ≤ 4294967295
 IsInRange (Demo s) = s ≤ 4294967295
 IsInRange (Ablate off n) = n ≤ 65536
 IsInRange (Harts n s) = (n ≤ 65536) × (s ≤ 4294967295)
+IsInRange (Redact d) = ⊤
 
 -- it works on an image that it reads; the others make theirs of a seed, and read nothing
 abbrev pub Reads : Command → Type 0

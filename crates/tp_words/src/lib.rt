@@ -26,6 +26,8 @@ pub enum Command {
     /// Run each hart of the image for so many slots, 0 to 65,536, in the order of events that a
     /// seed draws.
     Harts { slots: u32, seed: u32 },
+    /// Write the image as the tenant of one of its domains may hold it.
+    Redact { domain: u8 },
 }
 
 impl Command {
@@ -43,7 +45,8 @@ impl Command {
             | Command::Run { .. }
             | Command::Alone { .. }
             | Command::Ablate { .. }
-            | Command::Harts { .. } => true,
+            | Command::Harts { .. }
+            | Command::Redact { .. } => true,
             Command::Gen { .. } | Command::Demo { .. } => false,
         }
     }

@@ -57,7 +57,8 @@ fn tp_command<'a>(alloc: Global) -> Result<clap::Command<'a>, AllocError>
     let five = with(four, number_command(alloc, "gen", "seed", LAST_SEED));
     let six = with(five, number_command(alloc, "demo", "seed", LAST_SEED));
     let seven = with(six, ablate_command(alloc));
-    with(seven, harts_command(alloc))
+    let eight = with(seven, harts_command(alloc));
+    with(eight, number_command(alloc, "redact", "domain", LAST_DOMAIN))
 }
 
 // A command with one subcommand more, where both could be made. (Handed on as it is, a
@@ -207,6 +208,9 @@ fn asked_by(name: &str, found: &ArgMatches<'_>) -> Option<Command>
         "harts" => Command::Harts {
             slots: number_or_zero(found, "slots", MOST_SLOTS),
             seed: number_or_zero(found, "seed", LAST_SEED),
+        },
+        "redact" => Command::Redact {
+            domain: number_or_zero(found, "domain", LAST_DOMAIN) as u8,
         },
         _ => Command::Run { slots: 0 },
     };

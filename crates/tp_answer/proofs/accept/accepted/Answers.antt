@@ -1,12 +1,12 @@
 use Rattle.image_record.specs.Models.{raw_model}
 use Rattle.image_text.specs.Record.{image_of}
-use Rattle.tp_words.specs.declared.Command.TheVariants.{Check, Run, Alone, Ablate, Harts}
-use Rattle.tp_answer.specs.Reading.{broken_for, image_for}
+use Rattle.tp_words.specs.declared.Command.TheVariants.{Check, Run, Alone, Ablate, Harts, Redact}
+use Rattle.tp_answer.specs.Reading.{broken_for, record_for}
 use Rattle.tp_answer.proofs.Accepting.{accepts_checked}
 use Rattle.tp_answer.proofs.accept.accepted.Goals as goal
 
 pub returns-in-Ok : goal.returns-in-Ok
-unfolding image_for broken_for
+unfolding record_for broken_for
 returns-in-Ok c = record {
   check =
       accepts_checked Check (raw_model c.in-Ok.raw) (image_of c.args.bytes.now) c.check.result
@@ -20,6 +20,9 @@ returns-in-Ok c = record {
       c.check.ensures.same;
   harts =
       λ n s. accepts_checked (Harts n s) (raw_model c.in-Ok.raw) (image_of c.args.bytes.now) c.check.result
+      c.in-Ok.ensures.found c.check.ensures.refused c.check.ensures.accepted c.check.ensures.same;
+  redact =
+      λ d. accepts_checked (Redact d) (raw_model c.in-Ok.raw) (image_of c.args.bytes.now) c.check.result
       c.in-Ok.ensures.found c.check.ensures.refused c.check.ensures.accepted c.check.ensures.same;
   run =
       λ n. accepts_checked (Run n) (raw_model c.in-Ok.raw) (image_of c.args.bytes.now) c.check.result

@@ -3,8 +3,8 @@ use Rattle.tp_io.specs.Sink.{state}
 use Rattle.image_check.specs.Own.{owns_of}
 use Rattle.image_check.specs.Image.{image_from}
 use Rattle.tp_report.specs.Report.{usage_text}
-use Rattle.tp_answer.specs.Answer.{Answer}
-use Rattle.tp_answer.specs.Reading.{image_for}
+use Rattle.tp_answer.specs.Answer.{Answer, answer_of_record}
+use Rattle.tp_answer.specs.Reading.{record_for}
 use Rattle.tp_answer.specs.TopCall.{Delivers}
 use Rattle.tp_words.specs.declared.Command.TheVariants.{Alone}
 use Rattle.tp_answer.specs.declared.status.Status.TheVariants.{Usage}
@@ -12,11 +12,12 @@ use Rattle.tp_answer.proofs.Answers.{delivered, found_due, alone_due, lacks_due}
 use Rattle.tp_run.proofs.call.answer_alone.Goals as goal
 
 pub returns-then-domain-domains_of : goal.returns-then-domain-domains_of
+unfolding answer_of_record
 returns-then-domain-domains_of g c =
     let asked = Alone c.args.domain c.args.slots in
     let has : c.args.domain < length (owns_of c.in-Ok.image) = omega arith in
     let due =
-    found_due asked (image_for asked c.args.bytes.now) _
+    found_due asked (record_for asked c.args.bytes.now) _
     (c.in-Ok.ensures.alone c.args.domain c.args.slots)
     ∙ alone_due c.args.domain c.args.slots (image_from c.in-Ok.image) has in
     record {
@@ -26,11 +27,12 @@ returns-then-domain-domains_of g c =
     }
 
 pub returns-else-domain-domains_of : goal.returns-else-domain-domains_of
+unfolding answer_of_record
 returns-else-domain-domains_of g c =
     let asked = Alone c.args.domain c.args.slots in
     let lacks : length (owns_of c.in-Ok.image) ≤ c.args.domain = omega arith in
     let due =
-    found_due asked (image_for asked c.args.bytes.now) _
+    found_due asked (record_for asked c.args.bytes.now) _
     (c.in-Ok.ensures.alone c.args.domain c.args.slots)
     ∙ lacks_due c.args.domain c.args.slots (image_from c.in-Ok.image) lacks in
     let usage =

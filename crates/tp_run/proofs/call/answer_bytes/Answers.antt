@@ -2,7 +2,7 @@ use Rattle.std.proofs.Common.{◌≤◌, ◌<◌, length, refl, sym, ap, ◌∙�
 use Rattle.image_reading.specs.Reading.{most_bytes}
 use Rattle.tp_io.specs.Sink.{state}
 use Rattle.tp_words.specs.declared.Command.{Command}
-use Rattle.tp_words.specs.declared.Command.TheVariants.{Check, Bound, Run, Alone, Ablate, Harts}
+use Rattle.tp_words.specs.declared.Command.TheVariants.{Check, Bound, Run, Alone, Ablate, Harts, Redact}
 use Rattle.tp_answer.specs.Answer.{Answer, answer_of_bytes}
 use Rattle.tp_answer.specs.TopCall.{Delivers}
 use Rattle.tp_answer.specs.declared.status.Status.TheVariants.{TooLong}
@@ -64,6 +64,15 @@ returns-in-Harts-clause-delivers g c =
     subst (λ (d : Answer). Delivers d c.answer_run-in-Harts.result (state g.K.Sink c.args.out.now)
     (state g.K.Sink c.answer_run-in-Harts.new.out))
     (sym due) (c.answer_run-in-Harts.ensures.harts c.in-Harts.seed refl)
+
+pub returns-in-Redact-clause-delivers : goal.returns-in-Redact-clause-delivers
+returns-in-Redact-clause-delivers g c =
+    let few : length c.args.bytes.now ≤ most_bytes = search rules in
+    let due = ap (λ (k : Command). answer_of_bytes k c.args.bytes.now) c.in-Redact.is
+    ∙ image_due c.args.bytes.now (Redact c.in-Redact.domain) tt few in
+    subst (λ (d : Answer). Delivers d c.answer_redact.result (state g.K.Sink c.args.out.now)
+    (state g.K.Sink c.answer_redact.new.out))
+    (sym due) c.answer_redact.ensures.delivers
 
 pub returns-in-Gen-clause-delivers : goal.returns-in-Gen-clause-delivers
 returns-in-Gen-clause-delivers g c =

@@ -3,10 +3,11 @@ use Rattle.std.specs.Prelude.{IfSome}
 use Rattle.std.proofs.lemmas.Option.{same_Some}
 use Rattle.tp_io.specs.Sink.{state}
 use Rattle.tp_words.specs.declared.Command.{Command}
+use Rattle.tp_words.specs.declared.Command.TheVariants.{Redact}
 use Rattle.tp_words.specs.Words.{Reads, IsInRange, command, words_of}
-use Rattle.tp_answer.specs.declared.status.Status.TheVariants.{Refused, TooLong, Memory}
+use Rattle.tp_answer.specs.declared.status.Status.TheVariants.{Done, Refused, TooLong, Memory}
 use Rattle.tp_answer.specs.Answer.{answer_of_bytes}
-use Rattle.tp_answer.specs.TopCall.{Delivers}
+use Rattle.tp_answer.specs.TopCall.{Delivers, KeptReadsBack}
 use Rattle.tp_answer.proofs.Answers.{none_failed, neither_failed, wrote_of, want_is_no_read, want_is_no_fault, read_is_no_fault, none_taken, bytes_due, usage_sent, usage_delivers, ends_usage, completes, completes_surely}
 use Rattle.tp_answer.proofs.Commands.{answering, told_delivers}
 use Rattle.tp_answer.proofs.Told.{memory_tells, read_fault_tells, usage_tells, answered_tells, held_none, unasked}
@@ -49,6 +50,7 @@ returns-in-Ok-None g c =
       usage = t.usage;
       no_domain = t.no_domain;
       many_harts = t.many_harts;
+      no_kept_domain = t.no_kept_domain;
       done_reads = t.done_reads;
       refused_reads = t.refused_reads;
       too_long_reads = t.too_long_reads;
@@ -62,6 +64,7 @@ returns-in-Ok-None g c =
       alone = t.alone;
       same_section = t.same_section;
       unprotected = t.unprotected;
+      redacted = t.redacted;
       generated = t.generated;
       demo = t.demo;
     }
@@ -88,6 +91,7 @@ returns-in-Err g c =
       usage = t.usage;
       no_domain = t.no_domain;
       many_harts = t.many_harts;
+      no_kept_domain = t.no_kept_domain;
       done_reads = t.done_reads;
       refused_reads = t.refused_reads;
       too_long_reads = t.too_long_reads;
@@ -101,6 +105,7 @@ returns-in-Err g c =
       alone = t.alone;
       same_section = t.same_section;
       unprotected = t.unprotected;
+      redacted = t.redacted;
       generated = t.generated;
       demo = t.demo;
     }
@@ -132,6 +137,7 @@ returns-in-Err-Failed g c =
       usage = t.usage;
       no_domain = t.no_domain;
       many_harts = t.many_harts;
+      no_kept_domain = t.no_kept_domain;
       done_reads = t.done_reads;
       refused_reads = t.refused_reads;
       too_long_reads = t.too_long_reads;
@@ -145,6 +151,7 @@ returns-in-Err-Failed g c =
       alone = t.alone;
       same_section = t.same_section;
       unprotected = t.unprotected;
+      redacted = t.redacted;
       generated = t.generated;
       demo = t.demo;
     }
@@ -176,6 +183,7 @@ returns-in-Err-Memory g c =
       usage = t.usage;
       no_domain = t.no_domain;
       many_harts = t.many_harts;
+      no_kept_domain = t.no_kept_domain;
       done_reads = t.done_reads;
       refused_reads = t.refused_reads;
       too_long_reads = t.too_long_reads;
@@ -189,6 +197,7 @@ returns-in-Err-Memory g c =
       alone = t.alone;
       same_section = t.same_section;
       unprotected = t.unprotected;
+      redacted = t.redacted;
       generated = t.generated;
       demo = t.demo;
     }
@@ -211,7 +220,9 @@ returns g c =
     c.answer_bytes.ensures.delivers in
     let h = answering its items left' c.in-Ok.ensures.taken c.in-Ok.ensures.whole delivers in
     let range : IsInRange its = subst (λ (o : Option Command). IfSome o IsInRange) c.in-Ok-Some.field-0-is c.in-Ok-Some.ensures.range in
-    let t = answered_tells words _ h asked c.in-Ok.ensures.most range c.answer_bytes.ensures.reads_back in
+    let kept_back : (d : ℕ) → its ≡ Redact d → result ≡ Done → KeptReadsBack d items =
+    λ d own done. subst (KeptReadsBack d) c.as_slice.ensures.value (c.answer_bytes.ensures.kept_reads_back d own done) in
+    let t = answered_tells words _ h asked c.in-Ok.ensures.most range c.answer_bytes.ensures.reads_back kept_back in
     record {
       told = λ bytes told. (told_delivers _ h words bytes asked told).wrote;
       answered = λ read held. record {
@@ -236,6 +247,7 @@ returns g c =
       usage = t.usage;
       no_domain = t.no_domain;
       many_harts = t.many_harts;
+      no_kept_domain = t.no_kept_domain;
       done_reads = t.done_reads;
       refused_reads = t.refused_reads;
       too_long_reads = t.too_long_reads;
@@ -249,6 +261,7 @@ returns g c =
       alone = t.alone;
       same_section = t.same_section;
       unprotected = t.unprotected;
+      redacted = t.redacted;
       generated = t.generated;
       demo = t.demo;
     }

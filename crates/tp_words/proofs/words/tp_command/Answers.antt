@@ -1,6 +1,6 @@
 use Rattle.std.proofs.Common.{codes, ap, ◌∙◌}
 use Rattle.clap.specs.Simple.{app_of_fields, on_top}
-use Rattle.tp_words.specs.Words.{tp_app, check_app, bound_app, run_app, alone_app, seed_app, ablate_app, harts_app, required}
+use Rattle.tp_words.specs.Words.{tp_app, check_app, bound_app, run_app, alone_app, seed_app, ablate_app, harts_app, redact_app, required}
 use Rattle.tp_words.proofs.words.tp_command.Goals as goal
 
 -- one link for each subcommand
@@ -15,6 +15,7 @@ returns c =
     let five = c.with-five.ensures.app _ (seed_app (codes "gen")) four c.number_command-2.ensures.app c.number_command-2.ensures.local in
     let six = c.with-six.ensures.app _ (seed_app (codes "demo")) five c.number_command-3.ensures.app c.number_command-3.ensures.local in
     let seven = c.with-seven.ensures.app _ ablate_app six c.ablate_command.ensures.app c.ablate_command.ensures.local in
+    let eight = c.with-eight.ensures.app _ harts_app seven c.harts_command.ensures.app c.harts_command.ensures.local in
     record {
-      app = c.with.ensures.app _ harts_app seven c.harts_command.ensures.app c.harts_command.ensures.local;
+      app = c.with.ensures.app _ redact_app eight c.number_command-4.ensures.app c.number_command-4.ensures.local;
     }
