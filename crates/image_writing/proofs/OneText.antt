@@ -45,9 +45,19 @@ no_float_segment s = (tt, (tt, (tt, (tt, tt))))
 no_float_domain : (o : RawDomain) → NoFloat (domain_data o)
 unfolding domain_members
 no_float_domain o =
-    put_some (codes "calls") integers no_float_integers o.calls (plain_domain o)
-    (each_item string (λ s. tt) o.caps, (each_item integer (λ z. tt) o.colours, (tt, (each_item integer (λ z. tt) o.lines,
-    (each_item moment_data (λ m. (tt, (tt, tt))) o.moments, (tt, (each_item segment_data no_float_segment o.segments, tt)))))))
+    put_some (codes "calls") integers no_float_integers o.calls (plain_domain o) (
+      each_item string (λ s. tt) o.caps,
+      (
+        each_item integer (λ z. tt) o.colours,
+        (
+          tt,
+          (
+            each_item integer (λ z. tt) o.lines,
+            (each_item moment_data (λ m. (tt, (tt, tt))) o.moments, (tt, (each_item segment_data no_float_segment o.segments, tt))),
+          ),
+        ),
+      ),
+    )
 
 no_float_entry : (e : RawEntry) → NoFloat (entry_data e)
 unfolding entry_members
@@ -65,9 +75,19 @@ no_float_scheduled r = (tt, (each_item entry_data no_float_entry r.schedule, (tt
 
 no_float_plain : (r : Raw) → NoFloatMember (plain_members r)
 unfolding cache_members level2_members costs_members
-no_float_plain r =
-    ((tt, (tt, (tt, (tt, (tt, (tt, (tt, (tt, (tt, tt))))))))), (each_item domain_data no_float_domain r.domains, (tt, (tt,
-    ((tt, (tt, (tt, tt))), ((tt, (tt, (tt, tt))), ((tt, (tt, (tt, (tt, tt)))), (tt, no_float_scheduled r))))))))
+no_float_plain r = (
+  (tt, (tt, (tt, (tt, (tt, (tt, (tt, (tt, (tt, tt))))))))),
+  (
+    each_item domain_data no_float_domain r.domains,
+    (
+      tt,
+      (
+        tt,
+        ((tt, (tt, (tt, tt))), ((tt, (tt, (tt, tt))), ((tt, (tt, (tt, (tt, tt)))), (tt, no_float_scheduled r)))),
+      ),
+    ),
+  ),
+)
 
 no_float : (r : Raw) → NoFloatMember (record_members r)
 unfolding record_members with_targets

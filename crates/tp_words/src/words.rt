@@ -58,7 +58,10 @@ fn tp_command<'a>(alloc: Global) -> Result<clap::Command<'a>, AllocError>
     let six = with(five, number_command(alloc, "demo", "seed", LAST_SEED));
     let seven = with(six, ablate_command(alloc));
     let eight = with(seven, harts_command(alloc));
-    with(eight, number_command(alloc, "redact", "domain", LAST_DOMAIN))
+    with(
+        eight,
+        number_command(alloc, "redact", "domain", LAST_DOMAIN),
+    )
 }
 
 // A command with one subcommand more, where both could be made. (Handed on as it is, a
