@@ -1,5 +1,5 @@
 -- The domains that were made are those of the record.
-use Rattle.std.proofs.Common.{◌≡◌, ◌∙◌, ◌<◌, ℕ, List, length, map, get_or, string_bytes, sym, ap, ap₂, subst, arith}
+use Rattle.std.proofs.Common.{◌≡◌, ◌∙◌, ◌<◌, ℕ, List, length, map, get_or, string_bytes, sym, ap, ap₂, subst}
 use Rattle.std.proofs.lemmas.List.{get_or-map}
 use Rattle.image_record.specs.Record.{RawDomain, AreInKeyRanges, no_raw_domain, raw_domain}
 use Rattle.image_record.specs.declared.raw.Raw.{Raw}

@@ -1,10 +1,9 @@
 -- What has no float is written in one way.
-use Rattle.std.proofs.Common.{◌≡◌, ℕ, ℤ, Bool, true, false, if◌then◌else◌, List, [], ◌∷◌, ◌++◌, codes, map, refl, ap, ap₂, ◌∙◌, subst}
+use Rattle.std.proofs.Common.{◌≡◌, ℕ, Bool, true, false, if◌then◌else◌, List, [], ◌∷◌, ◌++◌, codes, refl, ap, ap₂, ◌∙◌, subst}
 use Rattle.toml_parser.specs.Lexical.{line_feed}
 use Rattle.toml_parser.specs.Strings.{Key}
 use Rattle.toml_writer.specs.Text.{key_text, dotted_text}
 use Rattle.toml.specs.Data.{Data, string, integer, float, boolean, datetime, array, table, Items, no_items, item, Members, no_members, member}
-use Rattle.toml.specs.View.{items_of}
 use Rattle.toml.specs.Tables.{Definition, key_value, std_table, array_table, Expression}
 use Rattle.toml.specs.Text.{breaks_lines, before_item, after_item, before_member, are_tables, is_section, pairs, needs_header, header_of, sections, section, elements, expressions, IsValueText, IsItemsText, IsMembersText, IsLineText, IsLinesText, IsDocumentText}
 use Rattle.image_writing.specs.Text.{value_text, items_text, members_text, line_text, lines_text}

@@ -5,7 +5,7 @@ use Rattle.std.specs.Ordering.{match_ordering}
 use Rattle.toml.specs.Data.{Data, string, integer, Members, no_members, member}
 use Rattle.toml.specs.View.{items_of}
 use Rattle.toml.specs.Text.{IsDocumentText}
-use Rattle.image_record.specs.Record.{Raw, RawSegment, RawMoment, RawDomain, RawEntry, RawMuldiv}
+use Rattle.image_record.specs.Record.{Raw, RawSegment, RawDomain, RawEntry, RawMuldiv}
 use Rattle.image_writing.specs.Data.{integers, put_member, put_if, segment_members, segment_data, moment_data, plain_domain, domain_members, domain_data, entry_members, entry_data, cache_members, level2_members, costs_members, muldiv_members, muldiv_data, scheduled_members, plain_members, with_targets, record_members}
 use Rattle.image_writing.specs.Text.{text_of}
 use Rattle.image_writing.proofs.Floatless.{NoFloat, NoFloatItem, NoFloatMember, one_text}

@@ -22,7 +22,7 @@ use Rattle.hart_orders.specs.declared.choice.Choice.{Choice}
 use Rattle.hart_orders.specs.declared.choice.Choice.TheVariants.{LeastClock, Drawn}
 use Rattle.image_gen.specs.Text.{text as generated_text}
 use Rattle.image_gen.proofs.Kept.{accepted_law}
-use Rattle.tp_report.specs.Report.{report_off, bounds_of, usage_text, refusal_text}
+use Rattle.tp_report.specs.Report.{report_off, usage_text, refusal_text}
 use Rattle.tp_words.specs.declared.Command.{Command}
 use Rattle.tp_words.specs.declared.Command.TheVariants.{Check, Bound, Run, Alone, Gen, Demo, Ablate, Harts, Redact}
 use Rattle.tp_answer.specs.declared.status.Status.{Status}
@@ -34,7 +34,7 @@ use Rattle.tp_answer.specs.Runs.{report, section_alone}
 use Rattle.tp_answer.proofs.Runs.{seen_alone, within_pads, lines_within, apart, same_section}
 use Rattle.tp_answer.proofs.Accepting.{Found, found_in}
 use Rattle.tp_answer.proofs.Kept.{kept_accepted, same_alone, same_among}
-use Rattle.tp_answer.specs.TopCall.{Writes, Delivers, MayBeUsage, ReadsImage, Refuses, Accepts, Bounds, Isolated, Padded, LacksDomain, WritesSection, SameSection, HasManyHarts, WritesOff, ReadsAll, KeptReadsBack, Redacts, ReadsBack, Generates, Summarizes}
+use Rattle.tp_answer.specs.TopCall.{Writes, Delivers, MayBeUsage, ReadsImage, Refuses, Accepts, Bounds, Isolated, Padded, LacksDomain, WritesSection, SameSection, HasManyHarts, WritesOff, KeptReadsBack, Redacts, ReadsBack, Generates, Summarizes}
 use Rattle.tp_answer.proofs.Answers.{all_taken, over_taken, too_long_due, image_due, bytes_due, gen_due, demo_due, alone_due, lacks_due, off_due, many_due, kept_due, none_kept_due, of_chosen, usage_of, other_reads, is_few, is_over}
 
 -- ---- the same is due

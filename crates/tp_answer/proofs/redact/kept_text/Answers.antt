@@ -1,4 +1,4 @@
-use Rattle.std.proofs.Common.{◌<◌, length, string_bytes, arith}
+use Rattle.std.proofs.Common.{string_bytes, arith}
 use Rattle.std.proofs.lemmas.List.{length-map}
 use Rattle.image_record.specs.Models.{raw_model}
 use Rattle.image_record.specs.Parts.{domain_model}
