@@ -78,7 +78,7 @@ pub fn largest(alloc: Global) -> Result<MemSystem<AnyPolicy>, Memory> {
         predictor: Sizes {
             counters: 4096,
             history: 0,
-            targets: 0,
+            targets: 256,
         },
         l1i: cache(AnyPolicy::Lru, 1024, 16),
         l1d: cache(AnyPolicy::Lru, 1024, 16),

@@ -1,5 +1,5 @@
 -- Its sizes are a hierarchy's.
-use Rattle.std.proofs.Common.{arith, refl, sym, subst, inl, lit≤}
+use Rattle.std.proofs.Common.{arith, refl, sym, subst, inr, lit≤}
 use Rattle.repl_policy.specs.declared.AnyPolicy.TheVariants.{Lru}
 use Rattle.l2_colour.specs.Colours.{IsColoured}
 use Rattle.memory_tests.proofs.Sizes.{is_cache}
@@ -12,7 +12,7 @@ new-requires c = record {
     coloured =
         subst (IsColoured 16) (sym c.cache-3.ensures.sets)
         (record { whole_lines = refl; whole_colours = refl; some = omega arith; few = omega arith });
-    predictor = record { counters = (12, refl); history = lit≤ tt; targets = inl refl };
+    predictor = record { counters = (12, refl); history = lit≤ tt; targets = inr (8, refl) };
     l1i =
         is_cache c.cache.result Lru 1024 16 10 c.cache.ensures.policy c.cache.ensures.sets
         c.cache.ensures.ways (omega arith, omega arith) refl (omega arith);
