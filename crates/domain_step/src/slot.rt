@@ -456,7 +456,8 @@ pub fn step<P: Policy>(
     ensures soon { result < end + most_event }
 {
     if now < plain_until(domain, end) {
-        // One instruction, as it takes a cycle or more.
+        // One instruction, as it takes a cycle or more. So the code of an instruction
+        // stands in one place, also where slots are run whole besides.
         stretch(memory, core, l2, domain, now, now + 1)
     } else {
         wait_or_deliver(memory, core, l2, domain, now, end)
@@ -505,9 +506,6 @@ fn run_plain<P: Policy>(
 }
 
 /// Events while the clock is below the end. Answers the clock after them.
-// Part of whatever machine runs it, so that the machine's parts are found from one place: called,
-// an event would take 6 in 100 more.
-#[inline(always)]
 pub fn stretch<P: Policy>(
     memory: &mut PhysMem,
     core: &mut OnCore<P>,

@@ -1,7 +1,7 @@
 mod Offs
 mod Openings
 mod Slots
-mod OneHart
+mod AllOn
 mod Entered
 mod Runs
 mod GuardsOff

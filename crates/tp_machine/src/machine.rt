@@ -1,29 +1,28 @@
-// The machine of one hart with all guards on: what the laws say of it holds of what it shows.
+// The machine with all guards on: what the laws say of it holds of what it shows.
+use crate::guarded::GuardedMachine;
 use domain_view::View;
-use hart_set::HartSet;
 use image_check::Checked;
 use std::alloc::Global;
 use std::marker::Model;
 use tp_base::Memory;
 use world_view::Used;
 
-/// The machine of an image of one hart between two slots, with all guards on: the hart set of
-/// that hart. It stands for the definition of the machine after so many slots.
+/// The whole machine between two slots, with all guards on. Its data stand for the
+/// definition of the machine after so many slots.
 #[derive(Drop)]
 pub struct Machine<'a> {
-    harts: HartSet<'a>,
-    slots: u32,
+    guarded: GuardedMachine<'a>,
 }
 
 impl<'a> Model for Machine<'a> {
-    ghost use Rattle.tp_machine.specs.Models.{Ran};
-    ghost use Rattle.tp_machine.specs.OneHart.{HasRun};
+    ghost use Rattle.tp_machine.specs.Models.{Ran, ran};
+    ghost use Rattle.tp_machine.specs.Worlds.{HasAllOn};
 
     ghost Value = { Ran };
 
-    ghost view = { λ m. record { record_of = m.harts.0; slots = m.slots } };
+    ghost view = { λ m. ran m.guarded };
 
-    ghost invariant = { λ m. HasRun m.harts m.slots };
+    ghost invariant = { λ m. HasAllOn m.guarded };
 }
 
 impl<'a> Machine<'a> {
@@ -47,11 +46,10 @@ impl<'a> Machine<'a> {
     pub fn load(alloc: Global, image: &'a Checked) -> Result<Self, Memory>
         requires one { IsOnOneHart (image_from image.now) }
         ensures slots { IfOk result (λ m. m.slots ≡ 0) }
-        ensures image { IfOk result (λ m. m.record_of ≡ image.now) }
+        ensures image { IfOk result (λ m. m.image.now ≡ image.now) }
     {
-        image.runnable();
-        let harts = HartSet::load(alloc, image)?;
-        Ok(Machine { harts, slots: 0 })
+        let guarded = GuardedMachine::load(alloc, image, None)?;
+        Ok(Machine { guarded })
     }
 
     /// The machine of an image of one hart after so many slots, 65,536 at most.
@@ -62,23 +60,17 @@ impl<'a> Machine<'a> {
         requires few { slots ≤ 65536 }
         requires one { IsOnOneHart (image_from image.now) }
         ensures slots { IfOk result (λ m. m.slots ≡ slots) }
-        ensures image { IfOk result (λ m. m.record_of ≡ image.now) }
+        ensures image { IfOk result (λ m. m.image.now ≡ image.now) }
     {
-        let mut machine = match Machine::load(alloc, image) {
-            Ok(machine) => machine,
-            Err(Memory) => return Err(Memory),
-        };
-        for slot in 0..slots {
-            machine.run_slot();
-        }
-        Ok(machine)
+        let guarded = GuardedMachine::after(alloc, image, None, slots)?;
+        Ok(Machine { guarded })
     }
 
     /// The image that it runs.
     pub fn image(&self) -> &Checked
-        ensures image { result.now ≡ self.now.record_of }
+        ensures image { result.now ≡ self.now.image.now }
     {
-        self.harts.image()
+        self.guarded.image
     }
 
     /// Switches to the domain of the next slot, waits for its start, and runs it.
@@ -86,12 +78,11 @@ impl<'a> Machine<'a> {
     pub fn run_slot(&mut self)
         requires slots { self.old.slots < 65536 }
         ensures slots { self.new.slots ≡ self.old.slots + 1 }
-        ensures image { self.new.record_of ≡ self.old.record_of }
+        ensures image { self.new.image.now ≡ self.old.image.now }
         ensures begins { spec.clock_of 0 (spec.switch (image_of self.old) self.old.slots (world_of self.old))
             ≡ schedule.start (image_of self.old).all.schedule self.old.slots }
     {
-        self.harts.run_slot(0);
-        self.slots += 1;
+        self.guarded.run_slot();
     }
 
     /// What is seen of a domain after the slots that have run: what is seen of it
@@ -102,7 +93,7 @@ impl<'a> Machine<'a> {
         ensures alone { view_model result
             ≡ view_alone (image_of self.now).all (own_of (image_of self.now) d) d self.now.slots }
     {
-        self.harts.view(d)
+        self.guarded.view(d)
     }
 
     /// What the switches of an entry took: none more than the entry's pad.
@@ -112,7 +103,7 @@ impl<'a> Machine<'a> {
         ensures count { result.count ≡ count_of entry (world_of self.now).used }
         ensures within { result.largest ≤ (entry_in (image_of self.now).all.schedule entry).pad }
     {
-        self.harts.used(entry)
+        self.guarded.used(entry)
     }
 
     /// What the switches of each entry took.
@@ -120,12 +111,12 @@ impl<'a> Machine<'a> {
         ensures all { length result.now ≡ length (image_of self.now).all.schedule }
         ensures each { IsUsed result.now (world_of self.now).used }
     {
-        self.harts.all_used()
+        self.guarded.all_used()
     }
 
     /// Frees it. The drops of its parts are checked by this, and not again in each crate
     /// that would drop it.
     pub fn discard(self) {
-        self.harts.discard();
+        self.guarded.discard();
     }
 }
