@@ -248,7 +248,9 @@ def test_a_picture_is_that_of_the_tool(tmp_path: Path) -> None:
         for folder in ("run", "flush")
     ]
     drawn = picture("spy", *sides)
-    assert repr(drawn) == "<Picture of spy: all guards on: 0.00 bits, flush off: 3.00 bits>"
+    bits = "entropy {0}, capacity {0} bits"
+    told = f"all guards on: {bits.format('0.00')}, flush off: {bits.format('3.00')}"
+    assert repr(drawn) == f"<Picture of spy: {told}>"
     drawn.save(tmp_path / "a.svg")
     shown = drawn._repr_png_()
     assert shown.startswith(b"\x89PNG") and shown == drawn._repr_png_()

@@ -49,7 +49,8 @@ class Picture:
             return file.read_bytes()
 
     def __repr__(self) -> str:
-        return f"<Picture of {self.domain}: {', '.join(side.guards for side in self.sides)}>"
+        sides = ", ".join(f"{side.guards}: {side.bits}" for side in self.sides)
+        return f"<Picture of {self.domain}: {sides}>"
 
 
 def picture(domain: str, *sides: Mapping[Hashable, Report], measure: str = "pairs") -> Picture:
