@@ -4,6 +4,7 @@ from __future__ import annotations
 
 import re
 from collections.abc import Iterator
+from contextlib import contextmanager
 from dataclasses import dataclass, field
 from itertools import zip_longest
 from pathlib import Path
@@ -192,23 +193,61 @@ def _pairs(
         yield of, here.get(of, []), there.get(of, [])
 
 
-def parse_report(text: str, file: str) -> Report:
-    """Reads a report; `file` is named where it is none."""
+@dataclass(frozen=True)
+class Outline:
+    """A report's parts, each with the number of its first line before it: of each domain its lines, of each
+    switch its line."""
+
+    off: str | None
+    sections: list[tuple[int, list[str]]]
+    switches: list[tuple[int, str]]
+
+    def lines_of(self, domain: str) -> list[str]:
+        """The lines of a domain's section, by its name."""
+        return next(lines for _, lines in self.sections if lines[0].split()[2] == domain)
+
+
+def outline_of(text: str, file: str) -> Outline:
+    """Takes a report apart; `file` is named where it is none."""
     lines = text.splitlines()
     if not lines or lines[-1] != "end":
         told = f": the program's answer is '{lines[0]}'" if lines and lines[0].startswith("refused ") else ""
         raise Fault(f"{file}: no report, which ends with the line 'end'{told}")
-    report = Report(off=_off(lines[0], file), text=text)
+    outline = Outline(_off(lines[0], file), [], [])
     starts = [number for number, line in enumerate(lines) if line.startswith(("domain ", "switch ", "end"))]
     for start, after in zip(starts, starts[1:]):
-        try:
-            if lines[start].startswith("domain "):
-                report.sections.append(_section(lines[start:after], start + 1))
-            else:
-                report.switches.append(_switch(lines[start], start + 1))
-        except (ValueError, IndexError, KeyError):
-            raise Fault(f"{file}:{start + 1}: no section of a report begins here") from None
+        if lines[start].startswith("domain "):
+            outline.sections.append((start + 1, lines[start:after]))
+        else:
+            outline.switches.append((start + 1, lines[start]))
+    return outline
+
+
+def parse_report(text: str, file: str) -> Report:
+    """Reads a report; `file` is named where it is none."""
+    outline = outline_of(text, file)
+    report = Report(off=outline.off, text=text)
+    for at, lines in outline.sections:
+        with _no_part(file, at):
+            report.sections.append(_section(lines, at))
+    for at, line in outline.switches:
+        report.switches.append(switch_of(line, at, file))
     return report
+
+
+def switch_of(line: str, at: int, file: str) -> Switch:
+    """Reads the line of an entry's switches, which is line `at` of a file."""
+    with _no_part(file, at):
+        return _switch(line, at)
+
+
+@contextmanager
+def _no_part(file: str, at: int) -> Iterator[None]:
+    """Tells a line that isn't what it should be."""
+    try:
+        yield
+    except (ValueError, IndexError, KeyError):
+        raise Fault(f"{file}:{at}: no section of a report begins here") from None
 
 
 def _off(line: str, file: str) -> str | None:

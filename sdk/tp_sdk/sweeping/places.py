@@ -3,7 +3,6 @@
 from __future__ import annotations
 
 from collections.abc import Iterable, Iterator
-from copy import deepcopy
 from dataclasses import dataclass, replace
 from pathlib import Path
 from typing import Any
@@ -51,9 +50,10 @@ class MachineKey:
 
     def put(self, variant: Variant, value: Value) -> None:
         """Has the value there; none leaves the key out."""
-        variant.machine = table = deepcopy(variant.machine)
+        # (tables that lead to it are copied, and no others: a sweep does this at each run)
+        variant.machine = table = dict(variant.machine)
         for name in self.path[:-1]:
-            table = table[name]
+            table[name] = table = dict(table[name])
         if value is None:
             table.pop(self.path[-1], None)
         else:

@@ -12,7 +12,7 @@ from tp_sdk.explain import explain
 from tp_sdk.faults import Fault, Missing
 from tp_sdk.program import Ended, Program
 from tp_sdk.refusals import Refusal
-from tp_sdk.report import Section, parse_report
+from tp_sdk.report import outline_of, switch_of
 from tp_sdk.schedule import hart_for, time_of
 from tp_sdk.sweeping.images import Built, Images, Refused
 from tp_sdk.sweeping.places import Variant
@@ -81,18 +81,19 @@ class Runner:
         return self._summary(run, built, ended)
 
     def _summary(self, run: Run, built: Built, ended: Ended) -> Ran:
-        report = parse_report(ended.text, str(self._plan.description.file))
-        seen = []
-        for observer in self._plan.observers:
-            section = report.section(observer)
-            time = time_of(built.entries, self._plan.slots, hart_for(built.entries, section.number))
-            seen.append(
-                Seen(
-                    _in_short(section), section.status.split()[0], section.retired, time.cycles, time.in_slots
-                )
-            )
-        used = max(it.used for it in report.switches)
-        return Ran(run, tuple(seen), max(it.pad for it in report.switches), used)
+        file = str(self._plan.description.file)
+        outline = outline_of(ended.text, file)
+        seen = tuple(self._seen(outline.lines_of(observer), built) for observer in self._plan.observers)
+        switches = [switch_of(line, at, file) for at, line in outline.switches]
+        return Ran(run, seen, max(it.pad for it in switches), max(it.used for it in switches))
+
+    def _seen(self, lines: list[str], built: Built) -> Seen:
+        """What an observer came to, by the lines of its section. (A sweep reads no more of them.)"""
+        values = dict(line.split(" ", 1) for line in lines[:3])
+        number = int(values["domain"].split()[0])
+        time = time_of(built.entries, self._plan.slots, hart_for(built.entries, number))
+        status, retired = values["status"].split()[0], int(values["retired"])
+        return Seen(_in_short(lines[1:]), status, retired, time.cycles, time.in_slots)
 
     def _why(self, refused: Refused, variant: Variant) -> str:
         ended = refused.ended
@@ -117,5 +118,5 @@ def _words(variant: Variant, slots: int) -> list[str]:
     return ["run", "--slots", str(slots)]
 
 
-def _in_short(section: Section) -> bytes:
-    return hashlib.blake2b(section.text.encode(), digest_size=16).digest()
+def _in_short(lines: list[str]) -> bytes:
+    return hashlib.blake2b("\n".join(lines).encode(), digest_size=16).digest()
