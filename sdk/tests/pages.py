@@ -120,7 +120,7 @@ class Reader:
                     command, cwd=place, env=variables, capture_output=True, text=True, check=False
                 )
                 written = (ended.stderr + ended.stdout).splitlines()
-                assert (it.text, written) == (it.text, it.due)
+                assert (it.text, written) == (it.text, it.due), (it.text, written, it.due)
 
     def _with_path(self, text: str) -> str:
         return _PATH.sub(f"{self.top}/", text)
