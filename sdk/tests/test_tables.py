@@ -12,6 +12,9 @@ from tp_sdk.refusals import CASES, Refusal, case_of
 
 IMAGE_MD = (REPOSITORY / "docs" / "IMAGE.md").read_text()
 REFUSED = re.compile(r"`(refused K\d+ at -?\d+ found -?\d+ wanted -?\d+)`")
+# The three numbers alone, behind an example of a rule.
+NUMBERS = re.compile(r": (-?\d+) (-?\d+) (-?\d+)(?=[;.]| \||$)", re.MULTILINE)
+RULES = tuple(dict.fromkeys(case.rule for case in CASES))
 
 
 def tables(text: str) -> list[list[list[str]]]:
@@ -33,20 +36,31 @@ def table_with(*head: str, text: str = IMAGE_MD) -> list[list[str]]:
 
 
 def section_of(rule: int) -> str:
-    found = re.search(rf"^\*\*K{rule}: .*?(?=^\*\*K|^## )", IMAGE_MD, re.MULTILINE | re.DOTALL)
+    found = re.search(rf"^(\*\*|## )K{rule}: .*?(?=^\*\*K|^## )", IMAGE_MD, re.MULTILINE | re.DOTALL)
     assert found is not None
     return found.group()
 
 
-def test_the_table_of_refusals() -> None:
-    told = [tuple(row) for row in table_with("rule", "broken where", "`at`", "`found`", "`wanted`")]
-    known = list(dict.fromkeys(case.columns for case in CASES))
-    assert told == [(f"K{it.rule}", it.broken, it.at, it.found, it.wanted) for it in known]
+def examples() -> list[tuple[int, str]]:
+    """The examples, each with the rule in whose section it stands, as the line that the program writes."""
+    return [
+        (rule, f"refused K{rule} at {at} found {found} wanted {wanted}")
+        for rule in RULES
+        for at, found, wanted in NUMBERS.findall(section_of(rule))
+    ]
+
+
+@pytest.mark.parametrize("rule", RULES)
+def test_what_the_numbers_say(rule: int) -> None:
+    section = section_of(rule)
+    for told in dict.fromkeys(case.numbers for case in CASES if case.rule == rule):
+        words = f"{told.at}; {told.found}; {told.wanted}"
+        assert f"Told: {words}." in section or f" | {words} | " in section
 
 
 def test_the_table_of_keys() -> None:
-    rows = table_with("row", "key", "value", "an example")
-    told = [(int(number), re.findall("`(.*?)`", key)[-1:], value) for number, key, value, _ in rows]
+    rows = table_with("row", "key", "value")
+    told = [(int(number), re.findall("`(.*?)`", key)[-1:], value) for number, key, value in rows]
     known = [(row.number, [row.key], row.value) for row in keys.KEY_ROWS]
     assert [row for row in told if row[0] != keys.OTHER_KEYS] == known
     numbers = [row[0] for row in told]
@@ -87,8 +101,9 @@ def test_the_fields_of_the_tables() -> None:
 
 
 def test_the_parts_of_the_machine() -> None:
-    rows = table_with("part", "key", "size or `sets`")
-    assert rows == [[str(it.number), f"`{it.key}`", f"{it.low:,} to {it.high:,}"] for it in keys.PARTS]
+    assert [it.number for it in keys.PARTS] == [*range(1, 7)]
+    sizes = (f"`{'.'.join(map(str, it.size))}` {it.low:,} to {it.high:,}" for it in keys.PARTS)
+    assert f"Parts 1 to 6 are powers of two: {', '.join(sizes)}." in section_of(3)
 
 
 @pytest.mark.parametrize("rule", (3, 11, 12, 13, 15, 19, 22))
@@ -143,16 +158,28 @@ def test_the_numbers_of_the_rules(rule: int, said: str) -> None:
 
 def test_the_versions() -> None:
     first, second = keys.LIMITS.values()
-    rows = {row[0].split(" (")[0]: row[1:] for row in table_with("", "version 1", "version 2")}
+    rows = {row[0]: row[1:] for row in table_with("limit", "least", "most", "most in version 2")}
     for name, row in (("frames", "`frames`"), ("domains", "domains"), ("entries", "entries of the schedule")):
-        ends = [getattr(limits, name) for limits in (first, second)]
-        assert rows[row] == [f"{it.low:,} to {it.high:,}" for it in ends]
+        one, two = (getattr(limits, name) for limits in (first, second))
+        assert one.low == two.low and rows[row] == [f"{it:,}" for it in (one.low, one.high, two.high)]
 
 
-@pytest.mark.parametrize("line", sorted(set(REFUSED.findall(IMAGE_MD))))
+def test_each_rule_has_an_example() -> None:
+    assert {rule for rule, _ in examples()} == {*RULES} - {1}
+
+
+@pytest.mark.parametrize("line", sorted({*REFUSED.findall(IMAGE_MD), *(line for _, line in examples())}))
 def test_each_refusal_of_the_document_has_a_case(line: str) -> None:
     refusal = Refusal.parse(line)
     assert str(refusal) == line
     for version in keys.LIMITS:
         holding = [it for it in CASES if it.rule == refusal.rule and it.holds(refusal, version)]
         assert holding == [case_of(refusal, version)]
+
+
+@pytest.mark.parametrize("rule", (3, 11, 12, 13, 15, 19, 22))
+def test_an_example_is_of_the_case_of_its_row(rule: int) -> None:
+    for number, broken, example in table_with("case", "broken where", "an example", text=section_of(rule)):
+        (numbers,) = NUMBERS.findall(f"{example} |")
+        refusal = Refusal.parse("refused K{} at {} found {} wanted {}".format(rule, *numbers))
+        assert (case_of(refusal).number, case_of(refusal).broken) == (int(number), broken)

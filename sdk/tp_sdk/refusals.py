@@ -40,11 +40,10 @@ class Refusal:
 
 
 @dataclass(frozen=True)
-class Columns:
-    """A row of the table of refusals in docs/IMAGE.md: what is broken, and what each number says."""
+class Numbers:
+    """What each number of a rule's refusals says, in the words of docs/IMAGE.md."""
 
     rule: int
-    broken: str
     at: str
     found: str
     wanted: str
@@ -55,7 +54,7 @@ class Case:
     """A case of a rule. `broken` has the words of docs/IMAGE.md where it has a table of the rule's cases;
     `holds` says of a refusal of an image of a version whether it is of this case."""
 
-    columns: Columns
+    numbers: Numbers
     number: int
     broken: str
     wants: str
@@ -68,7 +67,7 @@ class Case:
     @property
     def rule(self) -> int:
         """The rule's number."""
-        return self.columns.rule
+        return self.numbers.rule
 
     @property
     def name(self) -> str:
@@ -229,60 +228,33 @@ def _is_of_many_domains(refusal: Refusal, version: int) -> bool:
 _NO_LINE = 32
 _PREDICTOR = next(part.number for part in keys.PARTS if part.key == "predictor")
 
-_K1 = Columns(1, "the text is no TOML", "0", "0", "0")
-_K2 = Columns(
+_K1 = Numbers(1, "0", "0", "0")
+_K2 = Numbers(
     2,
-    "a key is missing, of another kind, or one too many",
     "the row of the table of keys",
     "the domain (rows 11 to 21, and 29), the entry (rows 23 to 25, and 31), else 0",
     "0",
 )
-_K3 = Columns(
-    3, "a part of the machine", "the part, 1 to 6", "the value (cases 3 and 4: the ways)", "the case, 1 to 4"
-)
-_K4 = Columns(4, "`frames` is out of its range", "0", "the number", "the end that it passes")
-_K5 = Columns(
-    5, "there are too few page colours, or too many", "0", "how many there are", "the end that they pass"
-)
-_K6 = Columns(6, "a cost is out of its range", "its place, 1 to 9", "the cost", "the end that it passes")
-_K7_MANY = Columns(
-    7,
-    "there are too few domains, or too many",
-    "16, in version 2 32",
-    "how many there are",
-    "16, in version 2 32",
-)
-_K7_NAME = Columns(7, "a name is none", "the domain", "the name's bytes", "16")
-_K7_TWICE = Columns(7, "a name stands twice", "the later domain", "the earlier domain", "0")
-_K8 = Columns(
-    8, "a colour that a domain can't have, or has twice", "the domain", "the colour", "the number of colours"
-)
-_K9 = Columns(9, "a colour of an earlier domain", "the domain", "the colour", "the earlier domain")
-_K10 = Columns(
-    10, "a domain has too few frames", "the domain", "the frames that it has", "the frames that it needs"
-)
-_K11_BYTES = Columns(11, "the shared region's bytes", "1", "the bytes", "65536")
-_K11_WAYS = Columns(11, "its frames are more than the second level has ways", "2", "the frames", "the ways")
-_K11_LAST = Columns(11, "its last frame is not in memory", "3", "that frame", "the frames of memory")
-_K12_SEGMENT = Columns(12, "a segment", "the domain", "the segment", "the case, 1 to 5")
-_K12_ENTRY = Columns(12, "the entry", "the domain", "the entry", "6")
-_K13_MANY = Columns(13, "there are more than 64 capabilities", "the domain", "how many there are", "1")
-_K13_ONE = Columns(13, "a capability", "the domain", "its slot", "the case, 2 to 5")
-_K14_NONE = Columns(14, "a line is not 0 to 31", "the domain", "the line", "32")
-_K14_BEFORE = Columns(
-    14, "a line is named before", "the domain", "the line", "the domain that names it first"
-)
-_K15_MANY = Columns(15, "there are more than 1,024 moments", "the domain", "how many there are", "1")
-_K15_ONE = Columns(15, "a moment", "the domain", "its place", "the case, 2 to 4")
-_K16_MANY = Columns(16, "there are too few entries, or too many", "0", "how many there are", "1")
-_K16_ONE = Columns(16, "an entry", "the entry", "the value", "the case, 2 to 4")
-_K17 = Columns(17, "a pad is below the bound on its switch", "the entry", "the pad", "the bound")
-_K18 = Columns(18, "a domain's list of calls", "the domain", "the place in the list", "14")
-_K19_NONE = Columns(19, "an entry's hart is not 0 to 3", "the entry", "the hart", "1")
-_K19_LACKS = Columns(19, "a hart below the greatest has no entry", "the hart", "0", "2")
-_K19_TWO = Columns(19, "an earlier entry gives the domain to another hart", "the entry", "the domain", "3")
-_K22_COST = Columns(22, "a cost of products is out of its range", "the case, 1 or 2", "the cost", "1000")
-_K22_TARGETS = Columns(22, "the target buffer has no size that there is", "3", "its places", "256")
+_K3 = Numbers(3, "the part, 1 to 6", "the value (cases 3 and 4: the ways)", "the case, 1 to 4")
+_K4 = Numbers(4, "0", "the number", "the end that it passes")
+_K5 = Numbers(5, "0", "how many there are", "the end that they pass")
+_K6 = Numbers(6, "its place, 1 to 9", "the cost", "the end that it passes")
+_K7_MANY = Numbers(7, "16, in version 2 32", "how many there are", "16, in version 2 32")
+_K7_NAME = Numbers(7, "the domain", "the name's bytes", "16")
+_K7_TWICE = Numbers(7, "the later domain", "the earlier domain", "0")
+_K8 = Numbers(8, "the domain", "the colour", "the number of colours")
+_K9 = Numbers(9, "the domain", "the colour", "the earlier domain")
+_K10 = Numbers(10, "the domain", "the frames that it has", "the frames that it needs")
+_K11 = Numbers(11, "the case", "the bytes, the frames, or its last frame", "65536, l2's `ways`, or `frames`")
+_K12 = Numbers(12, "the domain", "the segment (case 6: the entry)", "the case")
+_K13 = Numbers(13, "the domain", "the slot (case 1: how many there are)", "the case")
+_K14 = Numbers(14, "the domain", "the line", "32, or the domain that names it first")
+_K15 = Numbers(15, "the domain", "the place (case 1: how many there are)", "the case")
+_K16 = Numbers(16, "the entry (case 1: 0)", "the value (case 1: how many there are)", "the case")
+_K17 = Numbers(17, "the entry", "the pad", "the bound")
+_K18 = Numbers(18, "the domain", "the place in the list", "14")
+_K19 = Numbers(19, "the entry (case 2: the hart)", "the hart, 0, or the domain", "the case")
+_K22 = Numbers(22, "the case", "the cost, or the places", "1000 (case 3: 256)")
 
 
 def _from_to(kind: keys.Within) -> str:
@@ -318,7 +290,7 @@ _KEY_CASES = tuple(
 )
 
 CASES: tuple[Case, ...] = (
-    Case(_K1, 1, _K1.broken, "a text of TOML in UTF-8, each integer of 64 bits at most", _at()),
+    Case(_K1, 1, "the text is no TOML", "a text of TOML in UTF-8, each integer of 64 bits at most", _at()),
     *_KEY_CASES,
     Case(
         _K2,
@@ -400,7 +372,7 @@ CASES: tuple[Case, ...] = (
     Case(
         _K7_NAME,
         2,
-        _K7_NAME.broken,
+        "a name is none",
         "1 to 16 small letters (a to z) and digits",
         _of_domain("name"),
         lambda refusal, version: not _is_of_many_domains(refusal, version) and refusal.wanted != 0,
@@ -447,7 +419,7 @@ CASES: tuple[Case, ...] = (
         _of_domain("colours"),
     ),
     Case(
-        _K11_BYTES,
+        _K11,
         1,
         "`shared` is no multiple of `line`, or below it, or above 65,536",
         "a multiple of `line` up to 65,536",
@@ -455,7 +427,7 @@ CASES: tuple[Case, ...] = (
         _at_is(1),
     ),
     Case(
-        _K11_WAYS,
+        _K11,
         2,
         "its frames are more than l2's `ways`",
         "{wanted} frames of 4,096 bytes or fewer (here {found} are begun), or more ways",
@@ -463,7 +435,7 @@ CASES: tuple[Case, ...] = (
         _at_is(2),
     ),
     Case(
-        _K11_LAST,
+        _K11,
         3,
         "its last frame is not below `frames`",
         "a smaller `shared`, or more than {wanted} frames (its last would be frame {found})",
@@ -471,7 +443,7 @@ CASES: tuple[Case, ...] = (
         _at_is(3),
     ),
     Case(
-        _K12_SEGMENT,
+        _K12,
         1,
         "its last page is past page 1,048,575",
         "`page` and `pages` that make 1,048,576 together at most",
@@ -479,7 +451,7 @@ CASES: tuple[Case, ...] = (
         _wanted_is(1),
     ),
     Case(
-        _K12_SEGMENT,
+        _K12,
         2,
         "`rights` is none of `r`, `rw`, `x`, `rx`, `rwx`",
         _any_of(keys.RIGHTS),
@@ -487,7 +459,7 @@ CASES: tuple[Case, ...] = (
         _wanted_is(2),
     ),
     Case(
-        _K12_SEGMENT,
+        _K12,
         3,
         "`hex` is no text of pairs of hexadecimal digits",
         "two digits, 0 to 9 and a to f, for each byte",
@@ -495,7 +467,7 @@ CASES: tuple[Case, ...] = (
         _wanted_is(3),
     ),
     Case(
-        _K12_SEGMENT,
+        _K12,
         4,
         "`hex` writes more bytes than the pages hold",
         "4,096 bytes for each page at most, or more `pages`",
@@ -503,7 +475,7 @@ CASES: tuple[Case, ...] = (
         _wanted_is(4),
     ),
     Case(
-        _K12_SEGMENT,
+        _K12,
         5,
         "a page is one of an earlier segment's",
         "pages of its own",
@@ -512,7 +484,7 @@ CASES: tuple[Case, ...] = (
         other=_earlier_segment,
     ),
     Case(
-        _K12_ENTRY,
+        _K12,
         6,
         "the entry is no multiple of 4, or in no segment with `x`",
         "a multiple of 4 in a segment with `x`",
@@ -520,7 +492,7 @@ CASES: tuple[Case, ...] = (
         _wanted_is(6),
     ),
     Case(
-        _K13_MANY,
+        _K13,
         1,
         "there are more than 64",
         f"{keys.CAPS_MOST} texts or fewer (here {{found}} stand)",
@@ -528,7 +500,7 @@ CASES: tuple[Case, ...] = (
         _wanted_is(1),
     ),
     Case(
-        _K13_ONE,
+        _K13,
         2,
         "a text is none of the three",
         "`none`, `page N` or `irq N`, N in decimal without zeros before it",
@@ -536,7 +508,7 @@ CASES: tuple[Case, ...] = (
         _wanted_is(2),
     ),
     Case(
-        _K13_ONE,
+        _K13,
         3,
         "the page is in no segment of the domain",
         "a page of the domain's segments",
@@ -544,7 +516,7 @@ CASES: tuple[Case, ...] = (
         _wanted_is(3),
     ),
     Case(
-        _K13_ONE,
+        _K13,
         4,
         "the line is not in its `lines`",
         "one of the domain's `lines`",
@@ -552,7 +524,7 @@ CASES: tuple[Case, ...] = (
         _wanted_is(4),
     ),
     Case(
-        _K13_ONE,
+        _K13,
         5,
         "an earlier slot names the same",
         "each page and line once",
@@ -561,7 +533,7 @@ CASES: tuple[Case, ...] = (
         other=_earlier("caps"),
     ),
     Case(
-        _K14_NONE,
+        _K14,
         1,
         "there is no such line",
         _from_to(keys.LINE),
@@ -569,7 +541,7 @@ CASES: tuple[Case, ...] = (
         _wanted_is(_NO_LINE),
     ),
     Case(
-        _K14_BEFORE,
+        _K14,
         2,
         "the line is named before, by {other:wanted}",
         "a line that no domain names before",
@@ -578,7 +550,7 @@ CASES: tuple[Case, ...] = (
         other=_in_list_of_wanted("lines"),
     ),
     Case(
-        _K15_MANY,
+        _K15,
         1,
         "there are more than 1,024",
         f"{keys.MOMENTS_MOST:,} pairs or fewer (here {{found}} stand)",
@@ -586,7 +558,7 @@ CASES: tuple[Case, ...] = (
         _wanted_is(1),
     ),
     Case(
-        _K15_ONE,
+        _K15,
         2,
         "the cycle is out of its range",
         _from_to(keys.MOMENT),
@@ -594,7 +566,7 @@ CASES: tuple[Case, ...] = (
         _wanted_is(2),
     ),
     Case(
-        _K15_ONE,
+        _K15,
         3,
         "the line is not in its `lines`",
         "one of the domain's `lines`",
@@ -602,7 +574,7 @@ CASES: tuple[Case, ...] = (
         _wanted_is(3),
     ),
     Case(
-        _K15_ONE,
+        _K15,
         4,
         "it is not above the one before",
         "pairs that ascend, by the cycle and then by the line",
@@ -611,7 +583,7 @@ CASES: tuple[Case, ...] = (
         other=lambda refusal, image: ("domain", refusal.at, "moments", refusal.found - 1),
     ),
     Case(
-        _K16_MANY,
+        _K16,
         1,
         "the number of entries is {found}",
         "{entries}",
@@ -619,7 +591,7 @@ CASES: tuple[Case, ...] = (
         _wanted_is(1),
     ),
     Case(
-        _K16_ONE,
+        _K16,
         2,
         "there is no such domain",
         "the place of a domain, from 0",
@@ -627,7 +599,7 @@ CASES: tuple[Case, ...] = (
         _wanted_is(2),
     ),
     Case(
-        _K16_ONE,
+        _K16,
         3,
         "the slot's length is out of its range",
         _from_to(keys.LENGTH) + " cycles",
@@ -635,7 +607,7 @@ CASES: tuple[Case, ...] = (
         _wanted_is(3),
     ),
     Case(
-        _K16_ONE,
+        _K16,
         4,
         "the pad is out of its range",
         _from_to(keys.PAD) + " cycles",
@@ -658,7 +630,7 @@ CASES: tuple[Case, ...] = (
         other=_call_before,
     ),
     Case(
-        _K19_NONE,
+        _K19,
         1,
         "an entry's `hart` is not 0 to 3",
         _from_to(keys.HART),
@@ -666,17 +638,17 @@ CASES: tuple[Case, ...] = (
         _wanted_is(1),
     ),
     Case(
-        _K19_LACKS,
+        _K19,
         2,
-        _K19_LACKS.broken,
+        "a hart below the greatest has no entry",
         "an entry on hart {at}, too, or lesser harts",
         _of_greatest_hart,
         _wanted_is(2),
     ),
     Case(
-        _K19_TWO,
+        _K19,
         3,
-        _K19_TWO.broken,
+        "an earlier entry gives the domain to another hart",
         "one hart for all entries of {other:found}",
         _of_later_hart,
         _wanted_is(3),
@@ -684,7 +656,7 @@ CASES: tuple[Case, ...] = (
     ),
     *(
         Case(
-            _K22_COST,
+            _K22,
             number,
             f"`{cost}` is not 1 to 1,000",
             _from_to(keys.COST),
@@ -694,7 +666,7 @@ CASES: tuple[Case, ...] = (
         for number, cost in enumerate(keys.PRODUCTS, 1)
     ),
     Case(
-        _K22_TARGETS,
+        _K22,
         3,
         "`targets` is no power of two from 1 to 256",
         f"a power of two: {_from_to(keys.TARGETS)}",
