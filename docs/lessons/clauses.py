@@ -3,9 +3,53 @@
 from __future__ import annotations
 
 import re
+from dataclasses import dataclass
 from pathlib import Path
 
 TOP = Path(__file__).resolve().parents[2]
+
+
+@dataclass(frozen=True)
+class Row:
+    """A clause that a table of docs/PROVED.md names: the file that has it, below crates/, of which function or
+    type it is, its name, and what is said of it."""
+
+    path: str
+    of: str
+    name: str
+    says: str
+
+    @property
+    def crate(self) -> str:
+        return self.path.partition("/")[0]
+
+
+def ledger() -> list[Row]:
+    """The clauses that the tables of docs/PROVED.md name. The head of such a table begins with Clause or Law, and
+    may name the file and the function of all its rows; else a row has its file."""
+    found: list[Row] = []
+    for table in re.findall(r"(?:^\|.*\n)+", (TOP / "docs" / "PROVED.md").read_text(), re.MULTILINE):
+        head, _, *lines = (_cells(line) for line in table.splitlines())
+        if re.match(r"(Clause|Law)\b", head[0]):
+            for line in lines:
+                found += _rows(head[0], line)
+    return found
+
+
+def _cells(line: str) -> list[str]:
+    return [cell.strip() for cell in line.strip().strip("|").split(" | ")]
+
+
+def _rows(head: str, cells: list[str]) -> list[Row]:
+    """The clauses of a row, each with the function or type that is named before it, there or in the table's head."""
+    paths = re.findall(r"`(\w+/src/[\w/]+\.rt)`", f"{cells[1]} {head}")
+    of = ([""] + re.findall(r"`(\w+)`", head))[-1]
+    rows = []
+    for named in re.findall(r"`([\w:]+)`", cells[0]):
+        *owners, name = named.split("::")
+        of = owners[-1] if owners else of
+        rows.append(Row(paths[0] if paths else "", of, name, cells[-1]))
+    return rows
 
 
 def clause(crate: str, call: str, name: str) -> str:
@@ -52,15 +96,8 @@ def _closing(text: str, opening: int) -> int:
 
 
 def _told(crate: str, call: str, name: str) -> str:
-    """The part of a sentence of the ledger that ends with the clause's name, in the crate's section."""
-    ledger = (TOP / "docs" / "PROVED.md").read_text()
-    sections = re.findall(r"\n## ([^\n]*)\n(.*?)(?=\n## |\Z)", ledger, re.DOTALL)
-    section = next((text for crates, text in sections if crate in crates.split(", ")), "")
-    lines = section.splitlines()
-    # (a list of one call's clauses names the call before it)
-    named = [line for line in lines if re.search(rf"`(?:\w+::)?{call}\b", line)]
-    for line in [*named, *lines]:
-        for sentence in re.split(r"(?<=[.;:]) (?=[^()]*\()", line):
-            if f"`{name}`" in sentence:
-                return sentence.removeprefix("- ").rstrip(";")
+    """What the ledger says of a clause of a crate's function."""
+    for row in ledger():
+        if (row.crate, row.of, row.name) == (crate, call, name):
+            return row.says
     raise LookupError(f"docs/PROVED.md, {crate}: nothing is said of {name} of {call}")

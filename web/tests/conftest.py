@@ -22,7 +22,7 @@ import pytest
 
 TOP = Path(__file__).resolve().parents[2]
 OUT = TOP / "web" / "out"
-sys.path[:0] = [str(TOP / "sdk"), str(TOP / "web" / "data")]
+sys.path[:0] = [str(TOP / "sdk"), str(TOP / "web" / "data"), str(TOP / "docs" / "lessons")]
 
 from browser import faults_in_console, started  # noqa: E402
 from selenium import webdriver  # noqa: E402
