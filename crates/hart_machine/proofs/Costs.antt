@@ -4,7 +4,9 @@ use Rattle.mem_system.specs.Hierarchy.{Hierarchy}
 use Rattle.mem_system.specs.Cost.{Touch, Flush, Caches, Touched, and_then, touched, touched_all}
 use Rattle.mem_system.specs.Operations.{leave, prefetch}
 use Rattle.mem_system.specs.Sharing as sharing
-use Rattle.mem_system.specs.Sharing.{IsSharing, MayTouchAll, is_own_set}
+use Rattle.mem_system.specs.Sharing.{IsSharing, MayTouchAll, SameKernelPlaces, is_own_set}
+use Rattle.mem_system.proofs.KernelSets.{any_colour}
+use Rattle.mem_system.proofs.KernelPlaces.{places_stay_law, clean_dirty}
 use Rattle.mem_system.proofs.OwnTouches.{beside_law, prefetch_may}
 use Rattle.hardware_check.specs.Hardware.{Hardware}
 use Rattle.sched_table.specs.Schedule.{outgoing, last_end, harts_in}
@@ -19,6 +21,8 @@ use Rattle.world_view.specs.Harts.{image_on, domain_in}
 use Rattle.world_view.proofs.opening.Separate.{Separated}
 use Rattle.world_view.proofs.opening.OpeningFacts.{kernel_of}
 use Rattle.world_view.proofs.touches.KernelTouches.{leave_may}
+use Rattle.world_view.proofs.facts.KernelSets.{touches_in, any_sharing, switch_any}
+use Rattle.world_view.proofs.runs.SwitchParts.{switch_is}
 use Rattle.world_view.proofs.runs.SwitchLaws.{prepared, entered, left, others_left, own_left}
 use Rattle.world_view.proofs.harts.OnHart.{separated_on, hart_is}
 use Rattle.world_view.proofs.harts.Events.{switched}
@@ -154,6 +158,16 @@ module _ (i : Image) (r : Runnable i) (h : ℕ) (is : h < harts_in i.all.schedul
   unfolding touched_all and_then
   flush_leaves k c ready = touches_leave levels (colours k) (region p) (shares k) (Flush ∷ []) c (tt, tt) ready
 
+  -- all that a switch touches some domain may touch, and of colour 0 these are shared lines, which are there
+  switched_places : (k : ℕ) (u : World) → IsBefore k u → SameKernelPlaces levels (switched i r h is k u).l2 u.l2
+  unfolding switch_on with_hart guarded
+  switched_places k u a =
+      let shares = any_sharing on r_on in
+      let c = caches_of h u in
+      subst (λ (t : Touched). SameKernelPlaces levels t.caches.l2 u.l2) (sym (switch_is on (out k) (domain_in i h k) c))
+      (places_stay_law levels any_colour (region p) (touches_in on r_on k) c shares (switch_any on r_on k)
+      (clean_dirty levels c shares.coloured a.time.clean) a.there)
+
   pub switched_leaves : (k : ℕ) (u : World) → IsBefore k u → SameNobodys i (switched i r h is k u) u
   unfolding switch_on with_hart switch_work_by prefetch_by flush_by guarded and_then prepared
   switched_leaves k u a =
@@ -170,6 +184,7 @@ module _ (i : Image) (r : Runnable i) (h : ℕ) (is : h < harts_in i.all.schedul
             ∙ flushed.outside x (nobodys x none k) none.not_kernel
             ∙ loaded.outside x (nobodys x none k) none.not_kernel
             ∙ gone.outside x (nobodys x none k) none.not_kernel;
+        kernels = switched_places k u a;
       }
 
   module _ (w v : World) (same : SameParts i h w v) where

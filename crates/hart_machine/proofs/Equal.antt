@@ -79,18 +79,25 @@ module _ (i : Image) (h : ℕ) where
   }
 
 pub nobodys_back : (i : Image) (w v : World) → SameNobodys i w v → SameNobodys i v w
-nobodys_back i w v e =
-    record { frames = λ f none. sym (e.frames f none); sets = λ x none. sym (e.sets x none) }
+nobodys_back i w v e = record {
+  frames = λ f none. sym (e.frames f none);
+  sets = λ x none. sym (e.sets x none);
+  kernels = λ x kernel. sym (e.kernels x kernel);
+}
 
 pub nobodys_on : (i : Image) (w v u : World) → SameNobodys i w v → SameNobodys i v u → SameNobodys i w u
 nobodys_on i w v u e f = record {
   frames = λ x none. e.frames x none ∙ f.frames x none;
   sets = λ x none. e.sets x none ∙ f.sets x none;
+  kernels = λ x kernel. e.kernels x kernel ∙ f.kernels x kernel;
 }
+
+nobodys_itself : (i : Image) (w : World) → SameNobodys i w w
+nobodys_itself i w = record { frames = λ f none. refl; sets = λ x none. refl; kernels = λ x kernel. refl }
 
 pub same_shared : (i : Image) → IsEquality Harts (SameShared i)
 same_shared i = record {
-  itself = λ s. record { used = refl; nobodys = record { frames = λ f none. refl; sets = λ x none. refl } };
+  itself = λ s. record { used = refl; nobodys = nobodys_itself i s.world };
   back = λ s t e. record {
     used = sym e.used;
     nobodys = nobodys_back i s.world t.world e.nobodys;

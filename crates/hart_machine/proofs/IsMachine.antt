@@ -45,7 +45,7 @@ module _ (i : Image) (r : Runnable i) where
       let k = slots_of h s in
       let left = switched_leaves i r h there k s.world (record { time = is_in_time i r s a h there out; there = here }) in
       subst (λ (w : World). SameNobodys i w s.world) (sym (turns_world i h s out))
-      (record { frames = left.frames; sets = left.sets })
+      (record { frames = left.frames; sets = left.sets; kernels = left.kernels })
 
   -- ---- another hart
 

@@ -1,5 +1,5 @@
 -- Slot by slot an image's harts report what they report event by event.
-use Rattle.std.proofs.Common.{◌≡◌, ℕ, ◌<◌, List, [], ◌∷◌, ap, sym, refl, subst, arith}
+use Rattle.std.proofs.Common.{◌≡◌, ℕ, ◌<◌, List, [], ◌∷◌, Option, None, get_or, ap, sym, refl, subst, arith}
 use Rattle.std.proofs.lemmas.List.Elements.{All-nil}
 use Rattle.event_orders.specs.Orders as orders
 use Rattle.event_orders.specs.Orders.{all_counted}
@@ -8,6 +8,7 @@ use Rattle.event_orders.proofs.Ends.{ends_law}
 use Rattle.event_orders.proofs.Slots.{slots_law}
 use Rattle.event_orders.proofs.Sorted.{sorted_law}
 use Rattle.event_orders.proofs.Drawn.{counted_law}
+use Rattle.set_cache.specs.declared.KeptLine.{KeptLine}
 use Rattle.image_check.specs.Image.{Image, own_of}
 use Rattle.image_check.specs.Laws.{Runnable}
 use Rattle.sched_table.specs.Schedule.{harts_in}
@@ -17,7 +18,7 @@ use Rattle.world_view.proofs.runs.WholeLaws.{same_view}
 use Rattle.world_view.proofs.harts.Runs.{home}
 use Rattle.world_view.proofs.harts.Isolation.{at_first}
 use Rattle.hart_machine.specs.HartMachine.{IsReached, machine_of}
-use Rattle.hart_machine.specs.Laws.{SameReport, enough, event_by_event, slot_by_slot, ThroughLaw, SlotBySlotLaw, SlotsLaw, SwitchOrderLaw, CountedOffLaw}
+use Rattle.hart_machine.specs.Laws.{SameReport, enough, event_by_event, slot_by_slot, ThroughLaw, SlotBySlotLaw, SlotsLaw, SwitchOrderLaw, CountedOffLaw, KernelPlacesLaw}
 use Rattle.hart_machine.proofs.IsMachine.{is_machine}
 use Rattle.hart_machine.proofs.LeastClock.{ran_law}
 
@@ -53,11 +54,22 @@ harts_are i order = after_is i order (harts i [])
 pub through : ThroughLaw
 through i n r = ends_law (machine_of i) (is_machine i r) n (enough i n) (harts i []) (first_reached i r) (omega arith)
 
+-- each part is the same, and so are the switches
+both_ways : (i : Image) (n : ℕ) → Runnable i →
+    let slow = event_by_event i n in
+    let fast = slot_by_slot i n in
+    Alike (machine_of i) slow.world fast.world × (slow.switches ≡ fast.switches)
+both_ways i n r =
+    slots_law (machine_of i) (is_machine i r) n (enough i n) (harts i []) (first_reached i r) (first_between i r) (through i n r)
+
 pub slot_by_slot_law : SlotBySlotLaw
 slot_by_slot_law i n r =
-    let both = slots_law (machine_of i) (is_machine i r) n (enough i n) (harts i []) (first_reached i r) (first_between i r)
-    (through i n r) in
+    let both = both_ways i n r in
     (same_report i r (event_by_event i n).world (slot_by_slot i n).world both.0, both.1)
+
+pub kernel_places : KernelPlacesLaw
+kernel_places i n s way r kernel =
+    ap (λ (places : List (Option KeptLine)). get_or places way None) ((both_ways i n r).0.shared.nobodys.kernels s kernel)
 
 pub slots : SlotsLaw
 slots i n r =

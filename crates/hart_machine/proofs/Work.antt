@@ -1,15 +1,20 @@
 -- An event of a slot, from two worlds that are the same for its hart.
-use Rattle.std.proofs.Common.{◌≡◌, ◌≢◌, ◌⊎◌, inl, inr, ℕ, ◌<◌, true, ap, sym, ◌∙◌, refl, subst}
+use Rattle.std.proofs.Common.{◌≡◌, ◌≢◌, ◌⊎◌, inl, inr, ℕ, ◌<◌, true, false, ap, sym, ◌∙◌, refl, subst}
 use Rattle.std.proofs.lemmas.Bool.{cases_eq}
+use Rattle.mem_system.specs.Cost.{Caches}
+use Rattle.mem_system.specs.Sharing.{SameKernelPlaces}
+use Rattle.mem_system.proofs.KernelPlaces.{places_stay_law}
 use Rattle.sched_table.specs.Schedule.{harts_in}
 use Rattle.hardware_check.specs.Hardware.{Hardware}
 use Rattle.image_check.specs.Image.{Image, own_of}
 use Rattle.image_check.specs.Laws.{Runnable}
 use Rattle.world_view.specs.Machine.{Hart, World, hart_of, caches_of, dom_of, part_of, with_part, with_hart, setting, step}
 use Rattle.world_view.specs.Relations.{IsDomain, HasFacts, Resident, Within, Apiece}
+use Rattle.world_view.specs.Cost.{hierarchy, region, own_colour}
+use Rattle.world_view.specs.EventLaws.{step_touches}
 use Rattle.world_view.specs.Harts.{image_on, domain_in, end_on, hart_of_domain, runs}
 use Rattle.world_view.proofs.opening.OpeningFacts.{kernel_of}
-use Rattle.world_view.proofs.steps.StepLaws.{step_near}
+use Rattle.world_view.proofs.steps.StepLaws.{step_near, step_may, step_caches}
 use Rattle.world_view.proofs.harts.OnHart.{separated_on, hart_is}
 use Rattle.world_view.proofs.harts.Events.{IsInside, ran-hart, step_leaves}
 use Rattle.world_view.proofs.harts.Meets.{within_trans, apiece_trans, moved}
@@ -33,7 +38,18 @@ module _ (i : Image) (r : Runnable i) (h : ℕ) (is : h < harts_in i.all.schedul
     pub facts : HasFacts p (own_of i its) (dom_of w its) w.storage
     pub there : Resident p (caches_of h w)
 
-  -- what is nobody's stays
+  -- the places of the kernel's sets stay: what the event touches of colour 0 are shared lines, and these are there
+  ran_places : (u : World) → IsIn u → SameKernelPlaces (hierarchy p) (runs i h k u).l2 u.l2
+  unfolding runs with_part with_hart
+  ran_places u c =
+      let o = own_of i its in
+      let s = part_of h its u in
+      let kernel = kernel_of (image_on i h) (separated_on i r h is) its named in
+      subst (λ (x : Caches). SameKernelPlaces (hierarchy p) x.l2 u.l2) (sym (step_caches p o false (end_on i h k) s))
+      (places_stay_law (hierarchy p) (own_colour o) (region p) (step_touches p o (end_on i h k) s) s.caches kernel.shares
+      (step_may p o kernel (end_on i h k) s c.facts) c.inside.dirty c.there)
+
+  -- and so does what is nobody's
   pub runs_leaves : (u : World) → IsIn u → SameNobodys i (runs i h k u) u
   unfolding runs with_part with_hart
   runs_leaves u c =
@@ -53,6 +69,7 @@ module _ (i : Image) (r : Runnable i) (h : ℕ) (is : h < harts_in i.all.schedul
       record {
         frames = λ f none. stepped.storage.outside f (none its named);
         sets = λ x none. stepped.caches.l2.outside x (none.none its named) none.not_kernel;
+        kernels = ran_places u c;
       }
 
   module _ (w v : World) (a : IsIn w) (b : IsIn v) (same : SameParts i h w v) where

@@ -4,7 +4,7 @@ use Rattle.event_orders.specs.Machine.{Machine}
 use Rattle.phys_mem.specs.Mem.{frame_at}
 use Rattle.set_cache.specs.Cache.{set_at}
 use Rattle.l2_colour.specs.Colours.{colour_of_set}
-use Rattle.mem_system.specs.Sharing.{is_own_set}
+use Rattle.mem_system.specs.Sharing.{is_own_set, SameKernelPlaces}
 use Rattle.image_check.specs.Image.{Image, own_of}
 use Rattle.sched_table.specs.Schedule.{harts_in}
 use Rattle.world_view.specs.Frames.{own_frame}
@@ -38,13 +38,15 @@ pub record IsNobodysSet (i : Image) (x : ℕ) : Type 0 where
   pub not_kernel : colour_of_set (hierarchy i.all.hardware).line_size x ≢ 0
   pub none : (d : ℕ) → IsDomain i d → is_own_set (hierarchy i.all.hardware) (own_colour (own_of i d)) x ≡ false
 
--- equal in them
+-- equal in them, and in the places of the kernel's sets. Not in the policy's lists of these: all harts' calls and deliveries
+-- load the shared lines that stand there, and may do so in another order
 pub record SameNobodys (i : Image) (w v : World) : Type 0 where
   pub frames : (f : ℕ) → IsNobodysFrame i f → frame_at w.storage.mem f ≡ frame_at v.storage.mem f
   pub sets : (x : ℕ) → IsNobodysSet i x
       → set_at (hierarchy i.all.hardware).l2.ways w.l2 x ≡ set_at (hierarchy i.all.hardware).l2.ways v.l2 x
+  pub kernels : SameKernelPlaces (hierarchy i.all.hardware) w.l2 v.l2
 
--- equal in what switches alone write, which is what each took, in their order; and in what is nobody's
+-- equal in what switches alone write, which is what each took, in their order; and in what is no domain's
 pub record SameShared (i : Image) (s t : Harts) : Type 0 where
   pub used : s.world.used ≡ t.world.used
   pub nobodys : SameNobodys i s.world t.world

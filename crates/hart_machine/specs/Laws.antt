@@ -3,9 +3,12 @@ use Rattle.std.specs.Prelude.{◌≡◌, ℕ, suc, ◌<◌, List, [], ◌++◌, 
 use Rattle.event_orders.specs.Orders.{Ran, slot_events, run_slot, by_events, by_slots, cycles_left, owed_of, all_counted}
 use Rattle.event_orders.specs.Laws as laws
 use Rattle.event_orders.specs.Laws.{AreBetween, AreThrough, none_owed}
+use Rattle.l2_colour.specs.Colours.{colour_of_set}
+use Rattle.mem_system.specs.Sharing.{kept_at}
 use Rattle.image_check.specs.Image.{Image}
 use Rattle.image_check.specs.Laws.{Runnable}
 use Rattle.sched_table.specs.Schedule.{harts_in}
+use Rattle.world_view.specs.Cost.{hierarchy}
 use Rattle.world_view.specs.Machine.{World, clock_of}
 use Rattle.world_view.specs.Relations.{IsDomain}
 use Rattle.world_view.specs.View.{view_in}
@@ -80,8 +83,8 @@ CountedOffLaw = (i : Image) (order : List ℕ) → Runnable i → AreHartsOf i o
     let s = all_counted (machine_of i) order (none_owed (harts i [])) in
     SameReport i (harts i order).world s.world.world × ((h : ℕ) → h < harts_in i.all.schedule → owed_of h s ≡ 0)
 
--- ---- of each part: a hart's core and clock, its domains' states, frames and sets, what switches took, and what is nobody's;
--- of the second level's sets of the kernel's colour nothing is said
+-- ---- of each part: a hart's core and clock, its domains' states, frames and sets, what switches took, what is nobody's, and
+-- the places of the second level's sets of the kernel's colour, if not the policy's lists of these
 
 abbrev pub PartsLaw : Type 0
 PartsLaw = (i : Image) → Runnable i → laws.SlotsLaw (machine_of i)
@@ -91,6 +94,13 @@ AnyOrderPartsLaw = (i : Image) → Runnable i → laws.AnyOrderLaw (machine_of i
 
 abbrev pub DrawnPartsLaw : Type 0
 DrawnPartsLaw = (i : Image) → Runnable i → laws.DrawnLaw (machine_of i)
+
+-- so by the least clock, slot by slot, each way of each of the kernel's sets keeps what it does event by event
+abbrev pub KernelPlacesLaw : Type 0
+KernelPlacesLaw = (i : Image) (n s way : ℕ) → Runnable i →
+    let h = hierarchy i.all.hardware in
+    colour_of_set h.line_size s ≡ 0
+    → kept_at h (event_by_event i n).world.world.l2 s way ≡ kept_at h (slot_by_slot i n).world.world.l2 s way
 
 -- two events of different harts may change places, where one of them is no switch
 abbrev pub HartsCommuteLaw : Type 0

@@ -1,6 +1,6 @@
 //! Laws over the definitions, each the contract of a function that does nothing: a caller
 //! that calls it may rely on the law.
-ghost use Rattle.hart_machine.specs.Laws.{OneSlotLaw, RanLaw, ThroughLaw, SlotBySlotLaw, SlotsLaw, SwitchOrderLaw, CountedOffLaw, PartsLaw, AnyOrderPartsLaw, DrawnPartsLaw, HartsCommuteLaw, HartsPassLaw};
+ghost use Rattle.hart_machine.specs.Laws.{OneSlotLaw, RanLaw, ThroughLaw, SlotBySlotLaw, SlotsLaw, SwitchOrderLaw, CountedOffLaw, PartsLaw, AnyOrderPartsLaw, DrawnPartsLaw, KernelPlacesLaw, HartsCommuteLaw, HartsPassLaw};
 
 /// Events of a hart alone that end its next slot are its switch and the slot's own.
 pub fn one_slot()
@@ -22,11 +22,13 @@ pub fn any_order()
     ensures counted { CountedOffLaw }
 {}
 
-/// What all of this says of each part of the machine, at every moment.
+/// What all of this says of each part of the machine, at every moment; of the kernel's
+/// sets, which line stands in which way.
 pub fn parts()
     ensures slots { PartsLaw }
     ensures any_order { AnyOrderPartsLaw }
     ensures drawn { DrawnPartsLaw }
+    ensures places { KernelPlacesLaw }
 {}
 
 /// Two events of different harts may change places, where one of them is no switch.

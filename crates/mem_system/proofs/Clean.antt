@@ -77,7 +77,7 @@ module _ (h : Hierarchy) (coloured : IsColoured h.line_size h.l2.count) where
   -- ---- touches
 
   -- a line of another colour is of any colour but the kernel's
-  is_any : (line : ℕ) → colour_of_line h line ≢ 0 → IsOwnLine h any_colour line
+  pub is_any : (line : ℕ) → colour_of_line h line ≢ 0 → IsOwnLine h any_colour line
   is_any line apart = ap not (ne_eqb (colour_of_line h line) 0 apart)
 
   any_apart : (line : ℕ) → IsOwnLine h any_colour line → colour_of_line h line ≢ 0

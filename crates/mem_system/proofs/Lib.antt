@@ -13,6 +13,7 @@ pub mod OwnTouches
 pub mod ResidencyWays
 pub mod Residency
 pub mod KernelSets
+pub mod KernelPlaces
 pub mod Region
 pub mod Worst
 pub mod Settling

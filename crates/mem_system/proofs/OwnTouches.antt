@@ -45,7 +45,7 @@ step_places rule set line f (Some way) held = refl
 step_places rule set line f None held = absurd (true≢false (sym held))
 
 -- a load of a line that is held moves no line
-held_places : (shape : Shape) (sets : Sets) (line : ℕ) → holds shape sets line ≡ true → (s : ℕ)
+pub held_places : (shape : Shape) (sets : Sets) (line : ℕ) → holds shape sets line ≡ true → (s : ℕ)
     → (set_at shape.ways (touch_of shape sets line false).next s).places ≡ (set_at shape.ways sets s).places
 held_places shape sets line held =
     let home : ℕ = line % shape.count in
@@ -55,7 +55,7 @@ held_places shape sets line held =
     (step_places shape.rule set line (λ way. home * shape.ways + way) (way_of line set.places) held) (λ s other. refl)
 
 -- whether a line is held is read of the ways of its set
-same_held : (shape : Shape) (sets others : Sets) (line : ℕ)
+pub same_held : (shape : Shape) (sets others : Sets) (line : ℕ)
     → (set_at shape.ways sets (line % shape.count)).places ≡ (set_at shape.ways others (line % shape.count)).places
     → holds shape sets line ≡ holds shape others line
 same_held shape sets others line =

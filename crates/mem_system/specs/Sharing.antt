@@ -1,6 +1,6 @@
 -- How domains share the second level: each has the sets of its colours, and the kernel's shared lines stand in those of colour 0.
 use Rattle.std.specs.Prelude.{◌≡◌, ◌≢◌, ℕ, ◌%◌, ◌==◌, ◌<◌, ◌≤◌, ◌⊎◌, Bool, false, IsTrue, List, [], ◌∷◌, length, slice_index, slice_index_or, count_by, All, Option, Some, None}
-use Rattle.set_cache.specs.Cache.{Sets, set_at, EachDirty}
+use Rattle.set_cache.specs.Cache.{Sets, set_at, places_at, EachDirty}
 use Rattle.set_cache.specs.declared.KeptLine.{KeptLine}
 use Rattle.l2_colour.specs.Colours.{IsColoured, colour_of_set}
 use Rattle.mem_system.specs.Hierarchy.{Hierarchy, colour_of_line}
@@ -94,6 +94,11 @@ kept_at h l2 s way = slice_index_or (set_at h.l2.ways l2 s).places way None
 abbrev pub KeepsSharedAlone : Hierarchy → List ℕ → Sets → Type 0
 KeepsSharedAlone h region l2 = (s way : ℕ) (line : KeptLine) → colour_of_set h.line_size s ≡ 0
     → kept_at h l2 s way ≡ Some line → IsShared region line.number
+
+-- in each of them the same lines stand in the same ways, with the same marks, whatever the policy's list
+abbrev pub SameKernelPlaces : Hierarchy → Sets → Sets → Type 0
+SameKernelPlaces h l2 other = (s : ℕ) → colour_of_set h.line_size s ≡ 0
+    → places_at h.l2.ways l2 s ≡ places_at h.l2.ways other s
 
 -- no line of the kernel's colour is dirty: none in the first level, and none that the sets of that colour keep in the second
 pub record KernelIsClean (h : Hierarchy) (c : Caches) : Type 0 where

@@ -8,7 +8,7 @@ use Rattle.pad_bound.specs.Worst.{IsCloneOf}
 use Rattle.mem_system.specs.Hierarchy.{Hierarchy}
 use Rattle.mem_system.specs.Cost.{Touch, Caches, cold, and_then, touched_all}
 use Rattle.mem_system.specs.Operations.{shared_region, prefetch, leave_if, switch}
-use Rattle.mem_system.specs.Sharing.{IsRegion, IsSharing, HasRoom, AreApart, MayTouchAll, SameSets, Resident, kept_at, KeepsSharedAlone, KernelIsClean, OwnDirty, settled, BesideCaches, BesideTouched}
+use Rattle.mem_system.specs.Sharing.{IsRegion, IsSharing, HasRoom, AreApart, MayTouchAll, SameSets, Resident, kept_at, KeepsSharedAlone, SameKernelPlaces, KernelIsClean, OwnDirty, settled, BesideCaches, BesideTouched}
 use Rattle.mem_system.specs.Worst.{machine_shape, worst_touches, HasWays, IsWithin}
 
 -- touches after touches
@@ -95,6 +95,13 @@ abbrev pub PrefetchAloneLaw : Type 0
 PrefetchAloneLaw = (h : Hierarchy) (own : ℕ → Bool) (region : List ℕ) (pinned : Bool) (c : Caches)
     → IsSharing h own region → KeepsSharedAlone h region c.l2
     → KeepsSharedAlone h region (touched_all h pinned c (prefetch region)).caches.l2
+
+-- where they keep all shared lines, and a domain's dirty lines are its own, its touches leave their places as they are: each
+-- of a line that stands there hits. The prefetch is such touches of any domain
+abbrev pub PlacesStayLaw : Type 0
+PlacesStayLaw = (h : Hierarchy) (own : ℕ → Bool) (region : List ℕ) (ts : List Touch) (c : Caches)
+    → IsSharing h own region → MayTouchAll h own region ts → OwnDirty h own c.core → Resident h region c.l2
+    → SameKernelPlaces h (touched_all h false c ts).caches.l2 c.l2
 
 -- ---- no line of colour 0 is ever dirty
 

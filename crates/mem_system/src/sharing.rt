@@ -1,7 +1,7 @@
 //! Laws of shared caches over their definitions, each the contract of a function
 //! that does nothing: a caller that calls it may rely on the law.
 ghost use Rattle.mem_system.specs.SharingLaws.{AppendLaw, BesideLaw, OthersLaw, OwnDirtyLaw, StaysResidentLaw};
-ghost use Rattle.mem_system.specs.SharingLaws.{EmptyLaw, SharedAloneLaw, PrefetchAloneLaw, ColdIsCleanLaw, StaysCleanLaw};
+ghost use Rattle.mem_system.specs.SharingLaws.{EmptyLaw, SharedAloneLaw, PrefetchAloneLaw, PlacesStayLaw, ColdIsCleanLaw, StaysCleanLaw};
 ghost use Rattle.mem_system.specs.SharingLaws.{PrefetchLaw, PrefetchStaysLaw, SettledLaw, ResidentLaw, RegionLaw, WorstLaw, SwitchLaw, OnTimeLaw};
 
 /// Touches one after the other are a touch of all of them in order.
@@ -32,11 +32,13 @@ pub fn residency()
 {}
 
 /// The sets of colour 0, the kernel's, keep shared lines alone, whatever domains
-/// touch: at first they keep nothing.
+/// touch: at first they keep nothing. Once all shared lines are there, each stays in
+/// its way.
 pub fn kernel_sets()
     ensures empty { EmptyLaw }
     ensures touches { SharedAloneLaw }
     ensures prefetch { PrefetchAloneLaw }
+    ensures places { PlacesStayLaw }
 {}
 
 /// No line of colour 0 is ever dirty, so the kernel's shared lines cost the same

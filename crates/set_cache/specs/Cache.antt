@@ -27,6 +27,10 @@ Sets = Table CacheSet
 abbrev pub set_at : ℕ → Sets → ℕ → CacheSet
 set_at ways sets s = at (fresh_set ways) sets s
 
+-- its places: which line stands in which way, and whether it has a mark; the policy's list is left out
+abbrev pub places_at : ℕ → Sets → ℕ → List (Option KeptLine)
+places_at ways sets s = (set_at ways sets s).places
+
 -- whether a way keeps this line
 abbrev pub is_line : ℕ → Option KeptLine → Bool
 is_line number None = false

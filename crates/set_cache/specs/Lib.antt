@@ -1,5 +1,6 @@
 pub mod Rule
 pub mod Cache
+pub mod Example
 pub mod Contents
 pub mod Packed
 pub mod Lines
