@@ -1,8 +1,7 @@
 -- A domain in its slot, of the code and of the definitions.
-use Rattle.std.proofs.Common.{◌≡◌, ◌≢◌, ℕ, zero, suc, ◌+◌, ◌<◌, ◌≤◌, Bool, List, [], ◌∷◌, length, Option, Some, None, leb, true, false, inl, inr, refl, sym, ap, subst, ◌∙◌, arith, ltb, ◌-◌}
+use Rattle.std.proofs.Common.{◌≡◌, ◌≢◌, ℕ, zero, suc, ◌+◌, ◌<◌, ◌≤◌, Bool, List, [], ◌∷◌, length, Option, Some, None, leb, true, false, inl, inr, refl, sym, ap, subst, ◌∙◌, arith}
 use Rattle.std.specs.Prelude.{option_map, slice_get}
 use Rattle.std.proofs.lemmas.Bool.{cases_Bool, cases_lt, lt-leb}
-use Rattle.std.proofs.lemmas.Bool.Decides.{nat_tests}
 use Rattle.std.proofs.lemmas.Option.{none-some}
 use Rattle.phys_mem.specs.Contents.{Contents}
 use Rattle.irq_partition.specs.declared.Moment.{Moment}
@@ -27,12 +26,12 @@ use Rattle.kernel_call.specs.declared.domain.Domain.{Domain}
 use Rattle.kernel_call.specs.Models.{Becomes, Stands}
 use Rattle.world_view.specs.Kernel.{estate}
 use Rattle.world_view.specs.Event.{Act, instruction, interrupts_of, idle_until, delivery_touches}
-use Rattle.world_view.specs.Machine.{Setting, Local, paid, delivered, step, steps, stretch}
-use Rattle.world_view.proofs.steps.Fuel.{IsTimed, idle_past, stretch_step, stretch_done}
+use Rattle.world_view.specs.Machine.{Setting, Local, paid, delivered, step, stretch}
+use Rattle.world_view.proofs.steps.Fuel.{IsTimed, idle_past, step_later, stretch_step, stretch_done}
 use Rattle.world_view.proofs.steps.CodeLaws.{step-running, step-due, step-idle, step-still}
 use Rattle.domain_step.specs.Kept.{Fits, KeptOf}
 use Rattle.domain_step.specs.Stands.{GoesOn, IsPlain, IsOther}
-use Rattle.domain_step.specs.Moves.{Yields, Left, Leaves, StandsIn, Moves, Runs, MovesAlong}
+use Rattle.domain_step.specs.Moves.{Yields, Left, Leaves, StandsIn, Moves, Runs, Happen, MovesAlong}
 use Rattle.domain_step.proofs.Charges.{same_costs, owed, fits_still, steps_there}
 use Rattle.domain_step.proofs.Events.{has_still}
 
@@ -125,6 +124,45 @@ other_from d now end late plain =
       | inl early ↦ absurd (omega (arith, late, idle_later d.interrupts now end early plain.none))
       | inr over ↦ over
     ]
+
+-- ---- events that happen
+
+module _ (w : Setting) (end until : ℕ) where
+  pub happen_then : (n m : ℕ) (s x y : Local) → Happen w end until n s x → Happen w end until m x y
+      → Happen w end until (n + m) s y
+  happen_then zero m s x y here more =
+      let count : m ≡ 0 + m = omega arith in
+      subst (λ (k : ℕ). Happen w end until k s y) count (subst (λ (z : Local). Happen w end until m z y) (sym here) more)
+  happen_then (suc n) m s x y (early, rest) more =
+      let count : suc (n + m) ≡ suc n + m = omega arith in
+      subst (λ (k : ℕ). Happen w end until k s y) count (early, happen_then n m (step w end s) x y rest more)
+
+pub happen_sooner : (w : Setting) (end sooner until : ℕ) → sooner ≤ until → (n : ℕ) (s x : Local)
+    → Happen w end sooner n s x → Happen w end until n s x
+happen_sooner w end sooner until most zero s x here = here
+happen_sooner w end sooner until most (suc n) s x (early, rest) =
+    (omega (arith, early, most), happen_sooner w end sooner until most n (step w end s) x rest)
+
+module _ (w : Setting) (timed : IsTimed w.machine) (end until : ℕ) where
+  pub whole_slot : until ≡ end → (n : ℕ) (s x : Local) → Happen w end until n s x → end ≤ x.clock → stretch w end s ≡ x
+  whole_slot all zero s x here past =
+      stretch_done w timed end s (subst (λ (y : Local). end ≤ y.clock) (sym here) past) ∙ here
+  whole_slot all (suc n) s x (early, rest) past =
+      stretch_step w timed end s (omega (arith, early, all)) ∙ whole_slot all n (step w end s) x rest past
+
+  no_more : (n : ℕ) (s x : Local) → until ≤ s.clock → Happen w end until n s x → s ≡ x
+  no_more zero s x past here = here
+  no_more (suc n) s x past (early, rest) = absurd (omega (arith, early, past))
+
+  -- each event takes a cycle or more
+  pub one_event : until ≤ end → (n : ℕ) (s x : Local) → until ≡ s.clock + 1 → Happen w end until n s x → until ≤ x.clock
+      → step w end s ≡ x
+  one_event within zero s x one here past =
+      let same = ap (λ (y : Local). y.clock) here in
+      absurd (omega (arith, one, same, past))
+  one_event within (suc n) s x one (early, rest) past =
+      let later = step_later w timed end s (omega (arith, early, within)) in
+      no_more n (step w end s) x (omega (arith, one, later)) rest
 
 -- ---- between events
 
@@ -234,33 +272,6 @@ module _ {P : Type 0} (rule : P → ℕ → Rule) (stands : P → ℕ → ℕ �
           moments = moments ∙ i.moments;
           time = omega (arith, is, i.time, base_is, kept.cost);
         })
-
-    -- a stretch of one cycle is a step
-    one_more : (w : Setting) (end : ℕ) (s : Local) → ltb s.clock end ≡ true → steps w end 1 s ≡ step w end s
-    unfolding steps
-    one_more w end s before = ap (λ (b : Bool). elim b as (λ _. Local) [ true ↦ step w end s | false ↦ s ]) before
-
-    once : (w : Setting) (s : Local) → stretch w (s.clock + 1) s ≡ step w (s.clock + 1) s
-    once w s =
-        let end : ℕ = s.clock + 1 in
-        let left : end - s.clock ≡ 1 = omega arith in
-        let test : ltb s.clock end ≡ true = grind (arith, nat_tests) in
-        ap (λ (n : ℕ). steps w end n s) left ∙ one_more w end s test
-
-    -- of a domain whose next event is an instruction, whenever its slot ends
-    pub moves_once : (now later : ℕ) → IsPlain old now
-        → Moves rule stands (λ w. stretch w (now + 1)) memory old system now memory' new system' later
-        → Moves rule stands (step_to end) memory old system now memory' new system' later
-    moves_once now later plain moves w s i =
-        let runs = running_there w memory old system now s i plain.running in
-        let none = none_there w memory old system now s i plain.none in
-        let ready = ready_there w memory old system now s i true plain.ready in
-        let same : stretch w (now + 1) s ≡ step w end s =
-        ap (λ (t : ℕ). stretch w (t + 1) s) i.time
-        ∙ once w s
-        ∙ step-running w (s.clock + 1) s runs none ready
-        ∙ sym (step-running w end s runs none ready) in
-        subst (StandsIn rule stands w memory' new system' later) same (moves w s i)
 
     -- what they stand for after some change of it
     module _ (f : Setting → Local → Local) (now later : ℕ)
@@ -373,27 +384,45 @@ module _ {P : Type 0} (rule : P → ℕ → Rule) (stands : P → ℕ → ℕ �
           time = omega (arith, time, i.time, steps.cost);
         })
 
-  -- ---- a stretch
+  -- ---- events along a slot
 
-  module _ (end : ℕ) where
+  module _ (end until : ℕ) where
     abbrev pub Along : Contents → Domain → SystemContents P → ℕ → Contents → Domain → SystemContents P → ℕ → Type 0
-    Along = MovesAlong rule stands end
+    Along = MovesAlong rule stands end until
 
     pub along_none : (memory : Contents) (d : Domain) (system : SystemContents P) (now : ℕ)
         → Along memory d system now memory d system now
-    along_none memory d system now w s i = (s, i, refl)
+    along_none memory d system now w s i = record { events = 0; state = s; each = refl; stands_in = i }
 
+    -- those before a clock that is no later are events before this one, too
     pub along_then : (memory between memory' : Contents) (old now new : Domain)
-        (system middle system' : SystemContents P) (first clock later : ℕ)
-        → Along memory old system first between now middle clock → Along between now middle clock memory' new system' later
+        (system middle system' : SystemContents P) (first clock later sooner : ℕ) → sooner ≤ until
+        → Along memory old system first between now middle clock
+        → MovesAlong rule stands end sooner between now middle clock memory' new system' later
         → Along memory old system first memory' new system' later
-    along_then memory between memory' old now new system middle system' first clock later so_far more w s i =
-        let (x, is, same) = so_far w s i in
-        let (y, is', same') = more w x is in
-        (y, is', same' ∙ same)
+    along_then memory between memory' old now new system middle system' first clock later sooner most so_far more w s i =
+        let x = so_far w s i in
+        let y = more w x.state x.stands_in in
+        record {
+          events = x.events + y.events;
+          state = y.state;
+          each =
+              happen_then w end until x.events y.events s x.state y.state x.each
+              (happen_sooner w end sooner until most y.events x.state y.state y.each);
+          stands_in = y.stands_in;
+        }
+
+    pub along_step : (memory : Contents) (old : Domain) (system : SystemContents P) (first : ℕ) (memory' : Contents)
+        (new : Domain) (system' : SystemContents P) (later : ℕ) → first < until
+        → Moves rule stands (λ w. step w end) memory old system first memory' new system' later
+        → Along memory old system first memory' new system' later
+    along_step memory old system first memory' new system' later below moves w s i =
+        let early : s.clock < until = subst (λ (n : ℕ). n < until) i.time below in
+        record { events = 1; state = step w end s; each = (early, refl); stands_in = moves w s i }
 
     module _ (memory : Contents) (old : Domain) (system : SystemContents P) (first : ℕ) (base : 0 < system.core.costs.base)
-        (trap : 0 < system.core.costs.trap) where
+        (trap : 0 < system.core.costs.trap) (memory' : Contents) (now : Domain) (system' : SystemContents P) (clock : ℕ)
+        (so_far : Along memory old system first memory' now system' clock) (past : until ≤ clock) where
       timed_there : (w : Setting) (s : Local) → StandsIn rule stands w memory old system first s
           → IsTimed w.machine
       timed_there w s i = record {
@@ -401,18 +430,27 @@ module _ {P : Type 0} (rule : P → ℕ → Rule) (stands : P → ℕ → ℕ �
         trap = subst (λ (n : ℕ). 0 < n) (sym (ap (λ (c : CostTable). c.trap) (same_costs rule w memory system i.fits))) trap;
       }
 
-      pub along_step : (memory' : Contents) (new : Domain) (system' : SystemContents P) (later : ℕ)
-          → first < end
-          → Moves rule stands (λ w. step w end) memory old system first memory' new system' later
-          → Along memory old system first memory' new system' later
-      along_step memory' new system' later below moves w s i =
-          let early : s.clock < end = subst (λ (n : ℕ). n < end) i.time below in
-          (step w end s, moves w s i, sym (stretch_step w (timed_there w s i) end s early))
+      over : (w : Setting) (s : Local) (i : StandsIn rule stands w memory old system first s)
+          → until ≤ ((so_far w s i).state).clock
+      over w s i = subst (λ (n : ℕ). until ≤ n) (so_far w s i).stands_in.time past
 
-      pub along_over : (memory' : Contents) (now : Domain) (system' : SystemContents P) (clock : ℕ)
-          → Along memory old system first memory' now system' clock → end ≤ clock
+      -- up to the end they are the whole slot
+      pub along_whole : until ≡ end
           → Moves rule stands (λ w. stretch w end) memory old system first memory' now system' clock
-      along_over memory' now system' clock so_far past w s i =
-          let (x, is, same) = so_far w s i in
-          let over : end ≤ x.clock = subst (λ (n : ℕ). end ≤ n) is.time past in
-          subst (StandsIn rule stands w memory' now system' clock) (sym (stretch_done w (timed_there w s i) end x over) ∙ same) is
+      along_whole all w s i =
+          let x = so_far w s i in
+          let far = over w s i in
+          let same : stretch w end s ≡ x.state =
+          whole_slot w (timed_there w s i) end until all x.events s x.state x.each (omega (arith, far, all)) in
+          subst (StandsIn rule stands w memory' now system' clock) (sym same) x.stands_in
+
+      -- within a cycle they are one
+      pub along_once : until ≤ end → until ≡ first + 1
+          → Moves rule stands (λ w. step w end) memory old system first memory' now system' clock
+      along_once within one w s i =
+          let x = so_far w s i in
+          let far = over w s i in
+          let here = i.time in
+          let same : step w end s ≡ x.state =
+          one_event w (timed_there w s i) end until within x.events s x.state (omega (arith, one, here)) x.each far in
+          subst (StandsIn rule stands w memory' now system' clock) (sym same) x.stands_in

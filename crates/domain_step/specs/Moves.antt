@@ -1,5 +1,5 @@
 -- How steps of a domain end where the code answers, and what its domain, memory and hierarchy stand for.
-use Rattle.std.specs.Prelude.{◌≡◌, ℕ, ◌/◌, List, Result, Ok, Err, ◌⊎◌}
+use Rattle.std.specs.Prelude.{◌≡◌, ℕ, zero, suc, ◌<◌, ◌/◌, List, Result, Ok, Err, ◌⊎◌}
 use Rattle.std.proofs.Common.{inl, inr}
 use Rattle.tp_base.specs.Act.{either}
 use Rattle.phys_mem.specs.Contents.{Contents}
@@ -20,7 +20,7 @@ use Rattle.mem_system.specs.Translation.{KeepsLeaves}
 use Rattle.world_view.specs.Kernel.{estate}
 use Rattle.world_view.specs.Instruction.{trapped}
 use Rattle.world_view.specs.Event.{Storage, Act, stored_in}
-use Rattle.world_view.specs.Machine.{Setting, Local, stretch}
+use Rattle.world_view.specs.Machine.{Setting, Local, step}
 use Rattle.domain_step.specs.Kept.{Fits, after}
 
 -- ---- steps of a domain
@@ -92,12 +92,26 @@ Moves rule stands f memory old system now memory' new system' later = (w : Setti
     → StandsIn rule stands w memory old system now s
     → StandsIn rule stands w memory' new system' later (f w s)
 
--- whatever the old ones stand for, the new ones stand for a state from which as much of the slot is left
-abbrev pub MovesAlong : {P : Type 0} → (P → ℕ → Rule) → (P → ℕ → ℕ → List ℕ → Type 0) → ℕ
+-- so many events in a slot that ends then, each of which begins before this clock, lead from this state to that
+abbrev pub Happen : Setting → (end until : ℕ) → ℕ → Local → Local → Type 0
+Happen w end until zero s x = s ≡ x
+Happen w end until (suc n) s x = (s.clock < until) × Happen w end until n (step w end s) x
+
+-- what they stand for after some events
+pub record Went {P : Type 0} (rule : P → ℕ → Rule) (stands : P → ℕ → ℕ → List ℕ → Type 0) (w : Setting)
+    (end until : ℕ) (memory : Contents) (d : Domain) (system : SystemContents P) (clock : ℕ) (s : Local) : Type 0 where
+  pub events : ℕ
+  pub state : Local
+  pub each : Happen w end until events s state
+  pub stands_in : StandsIn rule stands w memory d system clock state
+
+-- whatever the old ones stand for, in whatever setting, the new ones stand for it after events of a slot that ends
+-- then, each of which begins before this clock
+abbrev pub MovesAlong : {P : Type 0} → (P → ℕ → Rule) → (P → ℕ → ℕ → List ℕ → Type 0) → (end until : ℕ)
     → Contents → Domain → SystemContents P → ℕ → Contents → Domain → SystemContents P → ℕ → Type 0
-MovesAlong rule stands end memory old system now memory' new system' later = (w : Setting) (s : Local)
+MovesAlong rule stands end until memory old system now memory' new system' later = (w : Setting) (s : Local)
     → StandsIn rule stands w memory old system now s
-    → (x : Local) × StandsIn rule stands w memory' new system' later x × (stretch w end x ≡ stretch w end s)
+    → Went rule stands w end until memory' new system' later s
 
 -- they stand for some state of some domain
 pub record Runs {P : Type 0} (rule : P → ℕ → Rule) (stands : P → ℕ → ℕ → List ℕ → Type 0)

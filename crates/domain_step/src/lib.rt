@@ -14,5 +14,5 @@ mod used;
 
 pub use harts::has_one_hart;
 pub use open::open_slot;
-pub use slot::{step, stretch};
+pub use slot::{run_until, step, stretch};
 pub use used::{note_switch, unused};

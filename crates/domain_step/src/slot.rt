@@ -424,12 +424,101 @@ fn wait_or_deliver<P: Policy>(
     next
 }
 
-/// One event of the domain in a slot that ends then. Answers the new clock, in
-/// cycles. Of a domain that runs, a moment that is due is delivered, and the
-/// delivery charged; else, where no thread is ready, the clock goes on to the
-/// next moment or the end; else the current thread runs an instruction, which
-/// with all that it charges may be past the end. One that doesn't run waits for
-/// the end.
+// Instructions, one after the other, while the domain goes on and the clock is
+// below `until`; one at least. Answers the clock after them.
+#[inline(always)]
+fn run_plain<P: Policy>(
+    memory: &mut PhysMem,
+    core: &mut OnCore<P>,
+    l2: &mut L2<P>,
+    domain: &mut Domain,
+    now: u64,
+    until: u64,
+) -> u64
+    requires frames { memory.old.frames ≤ 2 ^ 15 }
+    requires runs { Runs P.rule P.stands_for memory.old domain.old (system core.old l2.old) now }
+    requires plain { (t : ℕ) → t < until → IsPlain domain.old t }
+    requires before { now < until }
+    requires until { until < 2 ^ 62 }
+    requires few { CountsUpTo now domain.old }
+    ensures along { (end : ℕ) → MovesAlong P.rule P.stands_for end until
+        memory.old domain.old (system core.old l2.old) now memory.new domain.new
+        (system core.new l2.new) result }
+    ensures frames { memory.new.frames ≡ memory.old.frames }
+    ensures hierarchy { hierarchy_of P.rule (system core.new l2.new) ≡ hierarchy_of P.rule
+        (system core.old l2.old) }
+    ensures pinned { core.new.pinned ≡ core.old.pinned }
+    ensures runs { Runs P.rule P.stands_for memory.new domain.new (system core.new l2.new) result }
+    ensures few { CountsUpTo result domain.new }
+    ensures later { now < result }
+    ensures soon { result < until + most_event }
+{
+    let mut clock = now;
+    let mut goes_on = true;
+    while goes_on && clock < until {
+        let ran = run(memory, core, l2, domain, clock);
+        clock = ran.clock;
+        goes_on = ran.goes_on;
+    }
+    clock
+}
+
+/// Events while the clock is below `until`, in a slot that ends then or later. Answers the
+/// clock after them, in cycles. Of a domain that runs, a moment that is due is delivered, and
+/// the delivery charged; else, where no thread is ready, the clock goes on to the next moment
+/// or the end; else the current thread runs an instruction, which with all that it charges
+/// may be past the end. One that doesn't run waits for the end.
+///
+/// One event and a whole slot are both this call, so that who wants both has the code of an
+/// instruction in one place.
+pub fn run_until<P: Policy>(
+    memory: &mut PhysMem,
+    core: &mut OnCore<P>,
+    l2: &mut L2<P>,
+    domain: &mut Domain,
+    now: u64,
+    until: u64,
+    end: u64,
+) -> u64
+    requires frames { memory.old.frames ≤ 2 ^ 15 }
+    requires runs { Runs P.rule P.stands_for memory.old domain.old (system core.old l2.old) now }
+    requires within { until ≤ end }
+    requires end { end < 2 ^ 62 }
+    requires few { CountsUpTo now domain.old }
+    ensures along { MovesAlong P.rule P.stands_for end until
+        memory.old domain.old (system core.old l2.old) now memory.new domain.new
+        (system core.new l2.new) result }
+    ensures once { until ≡ now + 1 → Moves P.rule P.stands_for (λ w. spec.step w end)
+        memory.old domain.old (system core.old l2.old) now memory.new domain.new
+        (system core.new l2.new) result }
+    ensures whole { until ≡ end → Moves P.rule P.stands_for (λ w. spec.stretch w end)
+        memory.old domain.old (system core.old l2.old) now memory.new domain.new
+        (system core.new l2.new) result }
+    ensures frames { memory.new.frames ≡ memory.old.frames }
+    ensures hierarchy { hierarchy_of P.rule (system core.new l2.new) ≡ hierarchy_of P.rule
+        (system core.old l2.old) }
+    ensures pinned { core.new.pinned ≡ core.old.pinned }
+    ensures runs { Runs P.rule P.stands_for memory.new domain.new (system core.new l2.new) result }
+    ensures few { CountsUpTo result domain.new }
+    ensures over { until ≤ result }
+    ensures soon { now < until → result < end + most_event }
+    ensures done { until ≤ now → result ≡ now }
+{
+    // Each event takes a cycle or more.
+    let _costs = core.costs();
+    let mut clock = now;
+    while clock < until {
+        let plain = plain_until(domain, until);
+        clock = if clock < plain {
+            run_plain(memory, core, l2, domain, clock, plain)
+        } else {
+            wait_or_deliver(memory, core, l2, domain, clock, end)
+        };
+    }
+    clock
+}
+
+/// One event of the domain in a slot that ends then. Answers the new clock, in cycles.
 pub fn step<P: Policy>(
     memory: &mut PhysMem,
     core: &mut OnCore<P>,
@@ -455,57 +544,11 @@ pub fn step<P: Policy>(
     ensures later { now < result }
     ensures soon { result < end + most_event }
 {
-    if now < plain_until(domain, end) {
-        // One instruction, as it takes a cycle or more. So the code of an instruction
-        // stands in one place, also where slots are run whole besides.
-        stretch(memory, core, l2, domain, now, now + 1)
-    } else {
-        wait_or_deliver(memory, core, l2, domain, now, end)
-    }
-}
-
-// Instructions, one after the other, while the domain goes on and the clock is
-// below `until`; one at least. Answers the clock after them.
-#[inline(always)]
-fn run_plain<P: Policy>(
-    memory: &mut PhysMem,
-    core: &mut OnCore<P>,
-    l2: &mut L2<P>,
-    domain: &mut Domain,
-    now: u64,
-    until: u64,
-) -> u64
-    requires frames { memory.old.frames ≤ 2 ^ 15 }
-    requires runs { Runs P.rule P.stands_for memory.old domain.old (system core.old l2.old) now }
-    requires plain { (t : ℕ) → t < until → IsPlain domain.old t }
-    requires before { now < until }
-    requires until { until < 2 ^ 62 }
-    requires few { CountsUpTo now domain.old }
-    ensures along { (end : ℕ) → until ≤ end → MovesAlong P.rule P.stands_for end
-        memory.old domain.old (system core.old l2.old) now memory.new domain.new
-        (system core.new l2.new) result }
-    ensures frames { memory.new.frames ≡ memory.old.frames }
-    ensures hierarchy { hierarchy_of P.rule (system core.new l2.new) ≡ hierarchy_of P.rule
-        (system core.old l2.old) }
-    ensures pinned { core.new.pinned ≡ core.old.pinned }
-    ensures runs { Runs P.rule P.stands_for memory.new domain.new (system core.new l2.new) result }
-    ensures few { CountsUpTo result domain.new }
-    ensures later { now < result }
-    ensures soon { result < until + most_event }
-{
-    // Each event takes a cycle or more.
-    let _costs = core.costs();
-    let mut clock = now;
-    let mut goes_on = true;
-    while goes_on && clock < until {
-        let ran = run(memory, core, l2, domain, clock);
-        clock = ran.clock;
-        goes_on = ran.goes_on;
-    }
-    clock
+    run_until(memory, core, l2, domain, now, now + 1, end)
 }
 
 /// Events while the clock is below the end. Answers the clock after them.
+#[inline(always)]
 pub fn stretch<P: Policy>(
     memory: &mut PhysMem,
     core: &mut OnCore<P>,
@@ -516,7 +559,6 @@ pub fn stretch<P: Policy>(
 ) -> u64
     requires frames { memory.old.frames ≤ 2 ^ 15 }
     requires runs { Runs P.rule P.stands_for memory.old domain.old (system core.old l2.old) now }
-    requires before { now < 2 ^ 62 }
     requires end { end < 2 ^ 62 }
     requires few { CountsUpTo now domain.old }
     ensures becomes { Moves P.rule P.stands_for (λ w. spec.stretch w end)
@@ -532,16 +574,5 @@ pub fn stretch<P: Policy>(
     ensures soon { now < end → result < end + most_event }
     ensures done { end ≤ now → result ≡ now }
 {
-    // Each event takes a cycle or more.
-    let _costs = core.costs();
-    let mut clock = now;
-    while clock < end {
-        let until = plain_until(domain, end);
-        clock = if clock < until {
-            run_plain(memory, core, l2, domain, clock, until)
-        } else {
-            wait_or_deliver(memory, core, l2, domain, clock, end)
-        };
-    }
-    clock
+    run_until(memory, core, l2, domain, now, end, end)
 }

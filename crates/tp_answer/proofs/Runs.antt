@@ -1,30 +1,20 @@
 -- What is seen after a run.
-use Rattle.std.proofs.Common.{◌≡◌, ◌∙◌, ℕ, ◌≤◌, sym, ap, ap₂}
+use Rattle.std.proofs.Common.{◌≡◌, ℕ, ◌≤◌, sym, ap}
 use Rattle.sched_table.specs.Schedule.{entry_in}
 use Rattle.image_check.specs.Image.{Image, own_of}
 use Rattle.image_check.specs.Laws.{Runnable}
-use Rattle.world_view.specs.Machine.{whole}
-use Rattle.world_view.specs.View.{view, view_in}
+use Rattle.world_view.specs.View.{view_in}
 use Rattle.world_view.specs.Used.{largest_of}
-use Rattle.world_view.specs.Harts.{IsOnOneHart, view_alone_on}
+use Rattle.world_view.specs.Harts.{view_alone_on}
 use Rattle.world_view.specs.Relations.{IsDomain, AllWithinPads}
 use Rattle.hart_orders.specs.declared.choice.Choice.{Choice}
-use Rattle.hart_orders.proofs.ChoiceLaws.{choice_law, choice_pad, choice_largest, one_hart_run}
+use Rattle.hart_orders.proofs.ChoiceLaws.{choice_law, choice_pad, choice_largest}
 use Rattle.tp_report.specs.Report.{section_of, report_with, report_of}
 use Rattle.tp_report.specs.Texts.{section}
 use Rattle.tp_report.proofs.ReportLaws.{same_report}
 use Rattle.tp_answer.specs.Runs.{world_after, report, report_apart, section_among, section_alone}
 
 module _ (i : Image) (c : Choice) (n : ℕ) (r : Runnable i) where
-  -- of one hart it is the report of the machine that goes from slot to slot
-  pub of_one_hart : IsOnOneHart i → report_of i (whole i n) ≡ report i c n
-  unfolding report report_of
-  of_one_hart one =
-      let same = one_hart_run i c n r one in
-      same_report i (whole i n) (λ d. view_in i d (world_after i c n))
-      (λ d is. ap₂ (view i.all.hardware (own_of i d)) (same.doms d) same.storage)
-      ∙ ap (report_with i (λ d. view_in i d (world_after i c n))) same.used
-
   -- of each domain what is seen of it alone
   pub seen_alone : (d : ℕ) → IsDomain i d → view_in i d (world_after i c n) ≡ view_alone_on i d n
   seen_alone d is = choice_law i c n d r is

@@ -1,7 +1,7 @@
 mod Offs
 mod Openings
 mod Slots
-mod AllOn
+mod OneHart
 mod Entered
 mod Runs
 mod GuardsOff

@@ -1,6 +1,6 @@
 pub mod Guarded
 pub mod Propositions
 pub mod Models
-pub mod Worlds
+pub mod OneHart
 pub mod Ablated
 pub mod GuardLaws

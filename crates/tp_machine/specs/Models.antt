@@ -1,6 +1,5 @@
 -- How contracts see the code's machine: the image that it runs, and what it is after its slots.
 use Rattle.std.specs.Prelude.{ℕ}
-use Rattle.std.specs.Borrow.{Bor}
 use Rattle.image_record.specs.Record.{Raw}
 use Rattle.image_check.specs.Image.{Image, image_from}
 use Rattle.world_view.specs.Machine.{World, guards_of, whole, whole_by}
@@ -23,14 +22,11 @@ kept_of m = kept m.memory (system m.core m.l2) m.domains.items m.used.items m.cl
 
 -- an image that has run for so many slots
 pub record Ran : Type 0 where
-  pub image : Bor Raw
+  pub record_of : Raw
   pub slots : ℕ
 
-abbrev pub ran : GuardedMachine → Ran
-ran m = record { image = m.image; slots = m.slots }
-
 abbrev pub image_of : Ran → Image
-image_of r = image_from r.image.now
+image_of r = image_from r.record_of
 
 abbrev pub world_of : Ran → World
 world_of r = whole (image_of r) r.slots

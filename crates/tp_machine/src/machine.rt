@@ -1,28 +1,29 @@
-// The machine with all guards on: what the laws say of it holds of what it shows.
-use crate::guarded::GuardedMachine;
+// The machine of one hart with all guards on: what the laws say of it holds of what it shows.
 use domain_view::View;
+use hart_set::HartSet;
 use image_check::Checked;
 use std::alloc::Global;
 use std::marker::Model;
 use tp_base::Memory;
 use world_view::Used;
 
-/// The whole machine between two slots, with all guards on. Its data stand for the
-/// definition of the machine after so many slots.
+/// The machine of an image of one hart between two slots, with all guards on: the hart set of
+/// that hart. It stands for the definition of the machine after so many slots.
 #[derive(Drop)]
 pub struct Machine<'a> {
-    guarded: GuardedMachine<'a>,
+    harts: HartSet<'a>,
+    slots: u32,
 }
 
 impl<'a> Model for Machine<'a> {
-    ghost use Rattle.tp_machine.specs.Models.{Ran, ran};
-    ghost use Rattle.tp_machine.specs.Worlds.{HasAllOn};
+    ghost use Rattle.tp_machine.specs.Models.{Ran};
+    ghost use Rattle.tp_machine.specs.OneHart.{HasRun};
 
     ghost Value = { Ran };
 
-    ghost view = { λ m. ran m.guarded };
+    ghost view = { λ m. record { record_of = m.harts.0; slots = m.slots } };
 
-    ghost invariant = { λ m. HasAllOn m.guarded };
+    ghost invariant = { λ m. HasRun m.harts m.slots };
 }
 
 impl<'a> Machine<'a> {
@@ -46,10 +47,11 @@ impl<'a> Machine<'a> {
     pub fn load(alloc: Global, image: &'a Checked) -> Result<Self, Memory>
         requires one { IsOnOneHart (image_from image.now) }
         ensures slots { IfOk result (λ m. m.slots ≡ 0) }
-        ensures image { IfOk result (λ m. m.image.now ≡ image.now) }
+        ensures image { IfOk result (λ m. m.record_of ≡ image.now) }
     {
-        let guarded = GuardedMachine::load(alloc, image, None)?;
-        Ok(Machine { guarded })
+        image.runnable();
+        let harts = HartSet::load(alloc, image)?;
+        Ok(Machine { harts, slots: 0 })
     }
 
     /// The machine of an image of one hart after so many slots, 65,536 at most.
@@ -60,17 +62,23 @@ impl<'a> Machine<'a> {
         requires few { slots ≤ 65536 }
         requires one { IsOnOneHart (image_from image.now) }
         ensures slots { IfOk result (λ m. m.slots ≡ slots) }
-        ensures image { IfOk result (λ m. m.image.now ≡ image.now) }
+        ensures image { IfOk result (λ m. m.record_of ≡ image.now) }
     {
-        let guarded = GuardedMachine::after(alloc, image, None, slots)?;
-        Ok(Machine { guarded })
+        let mut machine = match Machine::load(alloc, image) {
+            Ok(machine) => machine,
+            Err(Memory) => return Err(Memory),
+        };
+        for slot in 0..slots {
+            machine.run_slot();
+        }
+        Ok(machine)
     }
 
     /// The image that it runs.
     pub fn image(&self) -> &Checked
-        ensures image { result.now ≡ self.now.image.now }
+        ensures image { result.now ≡ self.now.record_of }
     {
-        self.guarded.image
+        self.harts.image()
     }
 
     /// Switches to the domain of the next slot, waits for its start, and runs it.
@@ -78,11 +86,12 @@ impl<'a> Machine<'a> {
     pub fn run_slot(&mut self)
         requires slots { self.old.slots < 65536 }
         ensures slots { self.new.slots ≡ self.old.slots + 1 }
-        ensures image { self.new.image.now ≡ self.old.image.now }
+        ensures image { self.new.record_of ≡ self.old.record_of }
         ensures begins { spec.clock_of 0 (spec.switch (image_of self.old) self.old.slots (world_of self.old))
             ≡ schedule.start (image_of self.old).all.schedule self.old.slots }
     {
-        self.guarded.run_slot();
+        self.harts.run_slot(0);
+        self.slots += 1;
     }
 
     /// What is seen of a domain after the slots that have run: what is seen of it
@@ -93,7 +102,7 @@ impl<'a> Machine<'a> {
         ensures alone { view_model result
             ≡ view_alone (image_of self.now).all (own_of (image_of self.now) d) d self.now.slots }
     {
-        self.guarded.view(d)
+        self.harts.view(d)
     }
 
     /// What the switches of an entry took: none more than the entry's pad.
@@ -103,7 +112,7 @@ impl<'a> Machine<'a> {
         ensures count { result.count ≡ count_of entry (world_of self.now).used }
         ensures within { result.largest ≤ (entry_in (image_of self.now).all.schedule entry).pad }
     {
-        self.guarded.used(entry)
+        self.harts.used(entry)
     }
 
     /// What the switches of each entry took.
@@ -111,12 +120,12 @@ impl<'a> Machine<'a> {
         ensures all { length result.now ≡ length (image_of self.now).all.schedule }
         ensures each { IsUsed result.now (world_of self.now).used }
     {
-        self.guarded.all_used()
+        self.harts.all_used()
     }
 
     /// Frees it. The drops of its parts are checked by this, and not again in each crate
     /// that would drop it.
     pub fn discard(self) {
-        self.guarded.discard();
+        self.harts.discard();
     }
 }

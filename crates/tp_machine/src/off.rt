@@ -124,7 +124,6 @@ pub(crate) fn slot_off(
 ) -> u64
     requires domain { d < length domains.old }
     requires stands { Stands d memory.old (system core.old l2.old) domains.old now }
-    requires before { now < 2 ^ 62 }
     requires end { end < 2 ^ 62 }
     requires few { CountUpTo now domains.old }
     ensures becomes { BecomesBy off (λ g i w. spec.slot_if g.irq g i d end w) d

@@ -52,7 +52,7 @@ fn run_image_of<K: Sink>(alloc: Global, image: &Checked, seed: u32, out: &mut K)
 // The summary after the slots that have run.
 fn write_summary<K: Sink>(out: &mut K, seed: u32, machine: &Machine<'_>) -> Result<(), Failed>
     ensures sends { Sends (state K.Sink out.old) (state K.Sink out.new)
-        result (report_spec.demo_after (image_from machine.now.image.now) machine.now.slots seed) }
+        result (report_spec.demo_after (image_from machine.now.record_of) machine.now.slots seed) }
 {
     write_demo(out, DemoPart::Head(u64::from(seed)))?;
     write_lines(out, machine)?;
@@ -62,7 +62,7 @@ fn write_summary<K: Sink>(out: &mut K, seed: u32, machine: &Machine<'_>) -> Resu
 // The line of each domain.
 fn write_lines<K: Sink>(out: &mut K, machine: &Machine<'_>) -> Result<(), Failed>
     ensures sends { Sends (state K.Sink out.old) (state K.Sink out.new)
-        result (report_spec.demo_lines (image_from machine.now.image.now) machine.now.slots) }
+        result (report_spec.demo_lines (image_from machine.now.record_of) machine.now.slots) }
 {
     for d in 0..domains_of(machine.image()) {
         write_demo(out, DemoPart::Domain(d, &machine.view(d)))?;

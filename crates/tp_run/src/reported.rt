@@ -37,9 +37,9 @@ pub trait Reported {
 }
 
 impl<'a> Reported for Machine<'a> {
-    ghost image = { λ m. image_from m.image.now };
+    ghost image = { λ m. image_from m.record_of };
 
-    ghost world = { λ m. whole (image_from m.image.now) m.slots };
+    ghost world = { λ m. whole (image_from m.record_of) m.slots };
 
     fn checked(&self) -> &Checked {
         self.image()

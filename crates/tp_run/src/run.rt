@@ -3,7 +3,6 @@ ghost use Rattle.std.specs.Prelude.{◌<◌, ◌≤◌, length};
 ghost use Rattle.tp_io.specs.Sends.{Sends};
 ghost use Rattle.tp_io.specs.Sink.{state};
 ghost use Rattle.image_check.specs.Image.{image_from};
-ghost use Rattle.world_view.specs.Machine.{whole};
 ghost use Rattle.world_view.specs.View.{view_in};
 ghost use Rattle.world_view.specs.Harts.{IsOnOneHart};
 ghost use Rattle.tp_report.specs.Report as spec;
@@ -11,7 +10,6 @@ ghost use Rattle.tp_answer.specs.Runs as runs;
 ghost use Rattle.tp_answer.specs.TopCall.{Delivers};
 
 use crate::reported::Reported;
-use domain_step::has_one_hart;
 use guards::Guard;
 use hart_orders::Choice;
 use hart_set::HartRun;
@@ -20,7 +18,7 @@ use std::alloc::Global;
 use tp_answer::{Status, domains_of, status_unless_failed};
 use tp_base::Memory;
 use tp_io::{Failed, Sink};
-use tp_machine::{Ablated, Machine};
+use tp_machine::Ablated;
 use tp_report::{write_section, write_switches, write_unprotected};
 
 /// Runs the image for so many slots of each hart, and writes the report. Of several harts
@@ -36,31 +34,10 @@ pub fn run_image<K: Sink>(
     ensures delivers { Delivers (Status.Done, runs.report (image_from image.now) choice slots)
         result (state K.Sink out.old) (state K.Sink out.new) }
 {
-    image.runnable();
-    if has_one_hart(image) {
-        return run_machine(alloc, image, slots, out);
-    }
     match HartRun::new(alloc, image, choice, slots) {
         Ok(run) => {
             let status = status_unless_failed(Status::Done, write_report(out, &run));
             run.discard();
-            status
-        }
-        Err(Memory) => Status::Memory,
-    }
-}
-
-// Runs the image of one hart for so many slots and writes the report.
-fn run_machine<K: Sink>(alloc: Global, image: &Checked, slots: u32, out: &mut K) -> Status
-    requires few { slots ≤ 65536 }
-    requires one { IsOnOneHart (image_from image.now) }
-    ensures delivers { Delivers (Status.Done, spec.report_of (image_from image.now) (whole (image_from image.now) slots))
-        result (state K.Sink out.old) (state K.Sink out.new) }
-{
-    match Machine::after(alloc, image, slots) {
-        Ok(machine) => {
-            let status = status_unless_failed(Status::Done, write_report(out, &machine));
-            machine.discard();
             status
         }
         Err(Memory) => Status::Memory,

@@ -1,7 +1,9 @@
 // The calls of an image's harts.
+ghost use Rattle.std.specs.Prelude.{◌≡◌, ◌+◌, ◌<◌, ◌≤◌};
+
 use super::{HartSet, State};
 use domain_open::{discard as discard_opened, open_image};
-use domain_step::{note_switch, step, stretch, unused};
+use domain_step::{note_switch, run_until, unused};
 use domain_switch::switch;
 use domain_view::View;
 use hart_orders::{Slot, cold_caches, discard as discard_cold};
@@ -11,6 +13,30 @@ use sched_table::{Entry, Turn};
 use std::alloc::Global;
 use tp_base::Memory;
 use world_view::Used;
+
+// How far a hart goes in its slot.
+#[derive(Clone, Copy)]
+enum Stride {
+    // By one event.
+    Event,
+    // To the slot's end.
+    Slot,
+}
+
+// Until when its events begin, in cycles, at this clock in a slot that ends then: each takes
+// a cycle or more.
+fn until(stride: Stride, clock: u64, end: u64) -> u64
+    requires before { clock < end }
+    ensures event { stride ≡ Stride.Event → result ≡ clock + 1 }
+    ensures slot { stride ≡ Stride.Slot → result ≡ end }
+    ensures later { clock < result }
+    ensures within { result ≤ end }
+{
+    match stride {
+        Stride::Event => clock + 1,
+        Stride::Slot => end,
+    }
+}
 
 impl<'a> HartSet<'a> {
     ghost use Rattle.std.specs.Prelude.{◌≡◌, ℕ, ◌^◌, ◌<◌, ◌≤◌, length};
@@ -108,7 +134,7 @@ impl<'a> HartSet<'a> {
     {
         let at = usize::from(h);
         match self.state.harts[at].slot {
-            Some(slot) => self.go_on(at, slot),
+            Some(slot) => self.advance(at, slot, Stride::Event),
             None => {
                 self.begin(at);
             }
@@ -130,7 +156,7 @@ impl<'a> HartSet<'a> {
             Some(slot) => slot,
             None => self.begin(at),
         };
-        self.go_through(at, slot);
+        self.advance(at, slot, Stride::Slot);
     }
 
     // The switch into a hart's next slot, which it answers. It stands apart, since a step
@@ -176,52 +202,36 @@ impl<'a> HartSet<'a> {
         slot
     }
 
-    // One event of the domain whose slot a hart is in.
-    fn go_on(&mut self, h: usize, slot: Slot)
+    // Events of the domain whose slot a hart is in. All of a hart's events but its switches
+    // are this one call, so that the code of an instruction stands in one place.
+    #[inline(never)]
+    fn advance(&mut self, h: usize, slot: Slot, stride: Stride)
         requires hart { h < harts_in (image_of self.old).all.schedule }
         requires inside { AtHart self.old.1 h (λ x. x.slot ≡ Some slot) }
         requires slots { AtHart self.old.1 h (λ x. x.slots < 65536) }
         ensures image { self.new.0 ≡ self.old.0 }
-        ensures next { (order : List ℕ) → AreHartsOf (image_of self.old) order
+        ensures next { stride ≡ Stride.Event → (order : List ℕ) → AreHartsOf (image_of self.old) order
             → StandsFor (image_of self.old) (spec.harts (image_of self.old) order) self.old.1
             → StandsFor (image_of self.old) (spec.harts (image_of self.old) (order ++ h ∷ [])) self.new.1 }
+        ensures ends { stride ≡ Stride.Slot → (order : List ℕ) → AreHartsOf (image_of self.old) order
+            → StandsFor (image_of self.old) (spec.harts (image_of self.old) order) self.old.1
+            → EndsSlot (image_of self.old) order h self.new.1 }
     {
         let hart = &mut self.state.harts[h];
-        hart.clock = step(
+        let until = until(stride, hart.clock, slot.end);
+        hart.clock = run_until(
             &mut self.state.memory,
             &mut hart.core,
             &mut self.state.l2,
             &mut self.state.domains[usize::from(slot.domain)],
             hart.clock,
+            until,
             slot.end,
         );
         if slot.end <= hart.clock {
             hart.slots += 1;
             hart.slot = None;
         }
-    }
-
-    // What is left of the slot that a hart is in.
-    fn go_through(&mut self, h: usize, slot: Slot)
-        requires hart { h < harts_in (image_of self.old).all.schedule }
-        requires inside { AtHart self.old.1 h (λ x. x.slot ≡ Some slot) }
-        requires slots { AtHart self.old.1 h (λ x. x.slots < 65536) }
-        ensures image { self.new.0 ≡ self.old.0 }
-        ensures ends { (order : List ℕ) → AreHartsOf (image_of self.old) order
-            → StandsFor (image_of self.old) (spec.harts (image_of self.old) order) self.old.1
-            → EndsSlot (image_of self.old) order h self.new.1 }
-    {
-        let hart = &mut self.state.harts[h];
-        hart.clock = stretch(
-            &mut self.state.memory,
-            &mut hart.core,
-            &mut self.state.l2,
-            &mut self.state.domains[usize::from(slot.domain)],
-            hart.clock,
-            slot.end,
-        );
-        hart.slots += 1;
-        hart.slot = None;
     }
 
     // What a hart's next switch goes by, and its next slot.

@@ -1,7 +1,5 @@
 -- One instruction more, and as much of the slot is left.
-use Rattle.std.proofs.Common.{◌<◌, ◌≤◌, ◌^◌, ℕ, refl, ap, sym, subst, ◌∙◌, arith}
-use Rattle.cycle_cost.specs.Costs.{CostTable}
-use Rattle.mem_system.specs.Hierarchy.{Hierarchy}
+use Rattle.std.proofs.Common.{◌≤◌, ◌^◌, ℕ, refl, sym, subst, ◌∙◌, arith}
 use Rattle.domain_step.proofs.Moved.{plain_on, along_none, along_then, along_step}
 use Rattle.mem_system.specs.Contents.{system}
 use Rattle.domain_step.proofs.slot.run_plain.Goals as goal
@@ -17,8 +15,8 @@ loop-goes_on-init g c = record {
   hierarchy = refl;
   pinned = refl;
   runs = c.requires.runs;
-  along = λ end within.
-      along_none g.P.Policy.rule g.P.Policy.stands_for end c.args.memory.now c.args.domain.now
+  along = λ end.
+      along_none g.P.Policy.rule g.P.Policy.stands_for end c.args.until c.args.memory.now c.args.domain.now
       (system c.args.core.now c.args.l2.now) c.args.now;
 }
 
@@ -41,15 +39,6 @@ loop-goes_on-preserved g c =
     let here = c.loop-goes_on in
     let inv = here.invariant in
     let ran = c.run-ran in
-    let costs = c.costs-costs in
-    let base : 0 < here.core.costs.base =
-    subst (λ (n : ℕ). 0 < n)
-    (ap (λ (t : CostTable). t.base) costs.ensures.table ∙ sym (ap (λ (h : Hierarchy). h.costs.base) inv.hierarchy))
-    costs.result.base_range.some in
-    let trap : 0 < here.core.costs.trap =
-    subst (λ (n : ℕ). 0 < n)
-    (ap (λ (t : CostTable). t.trap) costs.ensures.table ∙ sym (ap (λ (h : Hierarchy). h.costs.trap) inv.hierarchy))
-    costs.result.trap_range.some in
     record {
       few = ran.ensures.few;
       soon = omega (arith, ran.ensures.soon, c.if-clock-until.true);
@@ -61,12 +50,13 @@ loop-goes_on-preserved g c =
       hierarchy = ran.ensures.hierarchy ∙ inv.hierarchy;
       pinned = ran.ensures.pinned ∙ inv.pinned;
       runs = ran.ensures.runs;
-      along = λ end within.
-          along_then g.P.Policy.rule g.P.Policy.stands_for end c.args.memory.now here.memory ran.new.memory
+      along = λ end.
+          along_then g.P.Policy.rule g.P.Policy.stands_for end c.args.until c.args.memory.now here.memory ran.new.memory
           c.args.domain.now here.domain ran.new.domain (system c.args.core.now c.args.l2.now)
           (system here.core here.l2) (system ran.new.core ran.new.l2)
-          c.args.now here.clock ran.result.clock (inv.along end within)
-          (along_step g.P.Policy.rule g.P.Policy.stands_for end here.memory here.domain (system here.core here.l2) here.clock base trap
-          ran.new.memory ran.new.domain (system ran.new.core ran.new.l2) ran.result.clock (omega (arith, c.if-clock-until.true, within))
+          c.args.now here.clock ran.result.clock c.args.until (omega arith) (inv.along end)
+          (along_step g.P.Policy.rule g.P.Policy.stands_for end c.args.until here.memory here.domain
+          (system here.core here.l2) here.clock
+          ran.new.memory ran.new.domain (system ran.new.core ran.new.l2) ran.result.clock c.if-clock-until.true
           (ran.ensures.becomes end));
     }

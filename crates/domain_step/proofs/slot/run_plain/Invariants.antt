@@ -18,7 +18,7 @@ invariant-loop-goes_on g l = record {
       ≡ hierarchy_of g.P.Policy.rule (system l.fn.core l.fn.l2);
   pinned : l.core.pinned ≡ l.fn.core.pinned;
   runs : Runs g.P.Policy.rule g.P.Policy.stands_for l.memory l.domain (system l.core l.l2) l.clock;
-  along : (end : ℕ) → l.until ≤ end → MovesAlong g.P.Policy.rule g.P.Policy.stands_for end
+  along : (end : ℕ) → MovesAlong g.P.Policy.rule g.P.Policy.stands_for end l.until
       l.fn.memory l.fn.domain (system l.fn.core l.fn.l2) l.now l.memory l.domain (system l.core l.l2) l.clock;
 }
 

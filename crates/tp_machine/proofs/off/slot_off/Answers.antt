@@ -41,7 +41,6 @@ stretch-requires c =
             in_slot s.off s.image c.args.d s.world c.args.memory.now (system c.args.core.now c.args.l2.now) domains c.args.now
             s.stands _ got;
       };
-      before = c.requires.before;
       end = c.requires.end;
       few = c.requires.few c.args.d _ got;
     }

@@ -24,7 +24,7 @@ returns-in-Ok g c =
           Delivers (Done, demo_after (image_from x) n s) c.status_unless_failed-status.result old new)
           c.in-Ok.ensures.image c.in-Ok.ensures.slots
           (delivered Done c.status_unless_failed-status.result
-          (demo_after (image_from m.image.now) m.slots s) old new c.write_summary.result tt
+          (demo_after (image_from m.record_of) m.slots s) old new c.write_summary.result tt
           c.write_summary.ensures.sends c.status_unless_failed-status.ensures.ok
           c.status_unless_failed-status.ensures.err);
     }

@@ -8,6 +8,6 @@ use Rattle.tp_run.proofs.generate.write_lines.Given as goal
 
 abbrev pub invariant-loop-d : goal.invariant-loop-d
 invariant-loop-d g l =
-    let i = image_from l.machine.image.now in
+    let i = image_from l.machine.record_of in
     Sent (state g.K.Sink l.fn.out) (state g.K.Sink l.out)
     (flat_map (demo_line i l.machine.slots) (take l.d (range_with_len 0 (length i.owns))))

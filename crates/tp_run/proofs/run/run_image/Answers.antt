@@ -1,6 +1,5 @@
-use Rattle.std.proofs.Common.{◌≡◌, ◌∙◌, ℕ, List, eqb-true, sym, ap, ap₂, subst}
+use Rattle.std.proofs.Common.{◌≡◌, ◌∙◌, ℕ, List, ap, ap₂, subst}
 use Rattle.image_record.specs.Record as text
-use Rattle.sched_table.specs.Schedule.{harts_in}
 use Rattle.image_check.specs.Image.{image_from}
 use Rattle.hart_orders.specs.Order.{ran}
 use Rattle.hart_orders.specs.declared.choice.Choice.{Choice}
@@ -10,20 +9,7 @@ use Rattle.tp_answer.specs.Runs.{report}
 use Rattle.tp_answer.specs.declared.status.Status.TheVariants.{Done}
 use Rattle.tp_answer.specs.TopCall.{Delivers}
 use Rattle.tp_answer.proofs.Answers.{delivered, nothing_held}
-use Rattle.tp_answer.proofs.Runs.{of_one_hart}
 use Rattle.tp_run.proofs.run.run_image.Goals as goal
-
-pub returns-then-has_one_hart : goal.returns-then-has_one_hart
-returns-then-has_one_hart g c =
-    let i = image_from c.args.image.now in
-    let one = eqb-true (harts_in i.all.schedule) 1 (sym c.has_one_hart.ensures.value ∙ c.if-has_one_hart.true) in
-    let same = of_one_hart i c.args.choice c.args.slots c.runnable.ensures.runnable one in
-    record {
-      delivers =
-          subst (λ (t : List ℕ). Delivers (Done, t) c.run_machine.result (state g.K.Sink c.args.out.now)
-          (state g.K.Sink c.run_machine.new.out))
-          same c.run_machine.ensures.delivers;
-    }
 
 pub returns-in-Err : goal.returns-in-Err
 returns-in-Err g c = record { delivers = nothing_held _ _ }

@@ -1,4 +1,4 @@
-use Rattle.std.proofs.Common.{◌≡◌, ◌∙◌, ℕ, ◌<◌, Some, None, sym, ap, subst, subst₂, arith}
+use Rattle.std.proofs.Common.{◌≡◌, ◌∙◌, ℕ, ◌<◌, Some, None, refl, sym, ap, subst, subst₂, arith}
 use Rattle.std.specs.Prelude.{slice_get, slice_index_or}
 use Rattle.image_record.specs.Record.{Raw}
 use Rattle.sched_table.specs.Schedule.{harts_in}
@@ -28,8 +28,8 @@ begin-slot-requires c =
     None c.in-None.is in
     record { hart = found.hart; between = found.slot; slots = found.slots }
 
-pub go_through-requires : goal.go_through-requires
-go_through-requires c =
+pub advance-requires : goal.advance-requires
+advance-requires c =
     let n = c.from-at.result in
     let Goes : Raw × State → Slot → Type 0 = λ u slot. GoesFrom u n (Some slot) in
     let goes : Goes c.match-index.self c.match-index.slot = elim c.match-index.branch [
@@ -55,7 +55,7 @@ go_through-requires c =
     record { hart = goes.hart; inside = goes.slot; slots = goes.slots }
 
 -- the hart, as it was found
-found : (c : goal.After-go_through)
+found : (c : goal.After-advance)
     → slice_get c.args.self.now.1.harts.items c.args.h ≡ Some c.index.result.now
 found c =
     let t = c.self.inside.state in
@@ -68,10 +68,10 @@ pub returns-clause-ends : goal.returns-clause-ends
 returns-clause-ends c =
     let v = c.args.self.now in
     let h = c.args.h in
-    let last = c.go_through.new.self.1 in
+    let last = c.advance.new.self.1 in
     let Ends : Raw × State → Type 0 = λ u. SlotEnds (image_of u) h u.1 last in
     let ends : Ends c.match-index.self =
-    subst (λ (n : ℕ). SlotEnds (image_of c.match-index.self) n c.match-index.self.1 last) c.from-at.ensures c.go_through.ensures.ends in
+    subst (λ (n : ℕ). SlotEnds (image_of c.match-index.self) n c.match-index.self.1 last) c.from-at.ensures (c.advance.ensures.ends refl) in
     elim c.match-index.branch [
       | in-Some w ↦ subst Ends w.self-is ends
       | in-None w ↦
@@ -87,6 +87,6 @@ pub returns-clause-image : goal.returns-clause-image
 returns-clause-image c =
     let image : Raw × State → Raw = λ u. u.0 in
     elim c.match-index.branch [
-      | in-Some w ↦ c.go_through.ensures.image ∙ ap image w.self-is
-      | in-None w ↦ c.go_through.ensures.image ∙ ap image w.self-is ∙ w.begin-slot.ensures.image
+      | in-Some w ↦ c.advance.ensures.image ∙ ap image w.self-is
+      | in-None w ↦ c.advance.ensures.image ∙ ap image w.self-is ∙ w.begin-slot.ensures.image
     ]

@@ -1,4 +1,4 @@
-use Rattle.std.proofs.Common.{ℕ, Some, None, subst, arith}
+use Rattle.std.proofs.Common.{ℕ, Some, None, refl, subst, arith}
 use Rattle.hart_set.specs.Models.{image_of}
 use Rattle.hart_set.proofs.Called.{NextStands, found_in, within}
 use Rattle.hart_set.proofs.set.HartSet.step.Goals as goal
@@ -11,8 +11,8 @@ index-requires c =
     c.from-at.ensures c.requires.hart c.self.invariant in
     omega (arith, there)
 
-pub go_on-requires : goal.go_on-requires
-go_on-requires c =
+pub advance-requires : goal.advance-requires
+advance-requires c =
     let found =
     found_in c.self.inside.image.now c.self.inside.state c.args.self.now c.self.view_is c.args.h
     c.from-at.result
@@ -33,10 +33,10 @@ pub returns-in-Some : goal.returns-in-Some
 returns-in-Some c =
     let v = c.args.self.now in
     record {
-      image = c.go_on.ensures.image;
+      image = c.advance.ensures.image;
       next =
-          subst (λ (n : ℕ). NextStands (image_of v) n v.1 c.go_on.new.self.1) c.from-at.ensures
-          c.go_on.ensures.next;
+          subst (λ (n : ℕ). NextStands (image_of v) n v.1 c.advance.new.self.1) c.from-at.ensures
+          (c.advance.ensures.next refl);
     }
 
 pub returns-in-None : goal.returns-in-None

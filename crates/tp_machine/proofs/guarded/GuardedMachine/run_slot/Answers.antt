@@ -113,17 +113,6 @@ slot_off-self-requires-clause-domain c =
     let long = ap (λ (ds : List Domain). length ds) c.as_mut_slice-2.ensures.value in
     omega (arith, enters.named, long, m.stands.all_domains)
 
-pub slot_off-self-requires-clause-before : goal.slot_off-self-requires-clause-before
-slot_off-self-requires-clause-before c =
-    omega (
-      arith,
-      c.switch_off-switched.ensures.few,
-      c.until_off.ensures.soon,
-      c.turn-turn.ensures.soon,
-      c.args.self.now.in_bounds.early,
-      c.requires.slots,
-    )
-
 pub slot_off-self-requires-clause-end : goal.slot_off-self-requires-clause-end
 slot_off-self-requires-clause-end c =
     let few = c.switch_off-switched.ensures.few in

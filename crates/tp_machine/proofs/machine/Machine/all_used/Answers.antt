@@ -1,12 +1,12 @@
-use Rattle.std.proofs.Common.{subst}
-use Rattle.world_view.specs.Machine.{World}
+use Rattle.std.proofs.Common.{ℕ, List, subst}
 use Rattle.domain_step.specs.Usage.{IsUsed}
 use Rattle.tp_machine.specs.Models.{Ran, world_of}
-use Rattle.tp_machine.proofs.AllOn.{world_is}
+use Rattle.tp_machine.proofs.OneHart.{used_is}
 use Rattle.tp_machine.proofs.machine.Machine.all_used.Goals as goal
 
 pub returns-clause-each : goal.returns-clause-each
 returns-clause-each c =
+    let m = c.self.inside in
     subst (λ (v : Ran). IsUsed c.all_used.result.now (world_of v).used) c.self.view_is
-    (subst (λ (w : World). IsUsed c.all_used.result.now w.used)
-    (world_is c.self.inside.guarded c.self.invariant.all_on) c.all_used.ensures.each)
+    (used_is m.harts m.slots c.self.invariant (λ (us : List (ℕ × ℕ)). IsUsed c.all_used.result.now us)
+    c.all_used.ensures.each)

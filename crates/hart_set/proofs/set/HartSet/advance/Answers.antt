@@ -4,13 +4,15 @@ use Rattle.image_record.specs.Record.{Raw}
 use Rattle.image_check.specs.Image.{Image, image_from}
 use Rattle.hart_orders.specs.declared.hart.Hart.{Hart}
 use Rattle.hart_set.specs.declared.set.State.{State}
+use Rattle.hart_set.specs.declared.set.calls.Stride.{Stride}
+use Rattle.hart_set.specs.declared.set.calls.Stride.TheVariants as stride
 use Rattle.hart_set.specs.Reached.{IsReached}
 use Rattle.hart_set.specs.Models.{image_of}
-use Rattle.hart_set.proofs.Called.{Called, NextStands, called, within, at_hart, to_value}
+use Rattle.hart_set.proofs.Called.{Called, NextStands, SlotEnds, called, within, at_hart, to_value}
 use Rattle.hart_set.proofs.Running.{StepEnd, GoesOn, IsOver}
-use Rattle.hart_set.proofs.GoingOn.{domain_there, slot_read, before, end_fits, frames_few, runs_here, counted_here, gone_on, reached_on}
-use Rattle.hart_set.proofs.set.HartSet.go_on.Goals.{then-slot-hart, else-slot-hart}
-use Rattle.hart_set.proofs.set.HartSet.go_on.Goals as goal
+use Rattle.hart_set.proofs.GoingOn.{domain_there, slot_read, before, end_fits, frames_few, runs_here, counted_here, gone_on, reached_on, gone_through, reached_through}
+use Rattle.hart_set.proofs.set.HartSet.advance.Goals.{then-slot-hart, else-slot-hart}
+use Rattle.hart_set.proofs.set.HartSet.advance.Goals as goal
 
 pub index_mut-hart-requires : goal.index_mut-hart-requires
 index_mut-hart-requires c =
@@ -18,6 +20,17 @@ index_mut-hart-requires c =
     within c.self.inside.image.now c.self.inside.state c.args.self.now c.self.view_is c.args.h c.args.h
     refl c.requires.hart c.self.invariant in
     omega (arith, there)
+
+-- the slot has not ended yet
+pub until-until-requires : goal.until-until-requires
+until-until-requires c =
+    let t = c.self.inside.state in
+    let x = c.index_mut-hart.result.now in
+    let k =
+    called c.self.inside.image.now t c.args.self.now c.self.view_is c.args.h c.requires.hart
+    c.self.invariant x c.index_mut-hart.ensures.value in
+    let inside = at_hart c.self.inside.image.now t c.args.self.now c.self.view_is c.args.h x _ k.got c.requires.inside in
+    record { before = before (image_from c.self.inside.image.now) t c.args.h x k c.args.slot inside }
 
 pub index_mut-requires : goal.index_mut-requires
 index_mut-requires c =
@@ -49,25 +62,24 @@ got c =
     slot_read (image_from c.self.inside.image.now) c.self.inside.state c.args.h c.index_mut-hart.result.now (call c) c.args.slot (inside c)
     c.from.result c.index_mut.result.now c.from.ensures c.index_mut.ensures.value
 
-pub step-hart-requires-clause-frames : goal.step-hart-requires-clause-frames
-step-hart-requires-clause-frames c =
+pub run_until-hart-requires-clause-frames : goal.run_until-hart-requires-clause-frames
+run_until-hart-requires-clause-frames c =
     frames_few (image_from c.self.inside.image.now) c.self.inside.state c.args.h c.index_mut-hart.result.now (call c) c.args.slot (inside c)
 
-pub step-hart-requires-clause-runs : goal.step-hart-requires-clause-runs
-step-hart-requires-clause-runs c =
+pub run_until-hart-requires-clause-runs : goal.run_until-hart-requires-clause-runs
+run_until-hart-requires-clause-runs c =
     runs_here (image_from c.self.inside.image.now) c.self.inside.state c.args.h c.index_mut-hart.result.now (call c) c.args.slot (inside c)
     c.index_mut.result.now (got c)
 
-pub step-hart-requires-clause-before : goal.step-hart-requires-clause-before
-step-hart-requires-clause-before c =
-    before (image_from c.self.inside.image.now) c.self.inside.state c.args.h c.index_mut-hart.result.now (call c) c.args.slot (inside c)
+pub run_until-hart-requires-clause-within : goal.run_until-hart-requires-clause-within
+run_until-hart-requires-clause-within c = c.until-until.ensures.within
 
-pub step-hart-requires-clause-end : goal.step-hart-requires-clause-end
-step-hart-requires-clause-end c =
+pub run_until-hart-requires-clause-end : goal.run_until-hart-requires-clause-end
+run_until-hart-requires-clause-end c =
     end_fits (image_from c.self.inside.image.now) c.self.inside.state c.args.h c.index_mut-hart.result.now (call c) c.args.slot (inside c)
 
-pub step-hart-requires-clause-few : goal.step-hart-requires-clause-few
-step-hart-requires-clause-few c =
+pub run_until-hart-requires-clause-few : goal.run_until-hart-requires-clause-few
+run_until-hart-requires-clause-few c =
     counted_here (image_from c.self.inside.image.now) c.self.inside.state c.args.h c.index_mut-hart.result.now
     (call c) c.args.slot (inside c)
     c.index_mut.result.now (got c)
@@ -106,11 +118,11 @@ got_after c =
 
 abbrev left : (c : goal.Joined-slot-hart) → StepEnd
 left c = record {
-  memory = c.step-hart.new.memory;
-  core = c.step-hart.new.core;
-  l2 = c.step-hart.new.l2;
-  domain = c.step-hart.new.domain;
-  clock = c.step-hart.result;
+  memory = c.run_until-hart.new.memory;
+  core = c.run_until-hart.new.core;
+  l2 = c.run_until-hart.new.l2;
+  domain = c.run_until-hart.new.domain;
+  clock = c.run_until-hart.result;
 }
 
 -- both ends
@@ -122,7 +134,7 @@ either : (c : goal.Joined-slot-hart) (P : Image → State → Type 0)
 either c P so = elim c.if-slot-hart.branch [
   | then-slot-hart w ↦
       subst (λ q. P (image_from q.image.now) q.state) (sym w.self-inside-is)
-      (so _ (record { core = c.step-hart.new.core; clock = c.step-hart.result; slots = c.index_mut-hart.result.now.slots + 1; slot = None })
+      (so _ (record { core = c.run_until-hart.new.core; clock = c.run_until-hart.result; slots = c.index_mut-hart.result.now.slots + 1; slot = None })
       (inr (record {
         past = w.if-slot-hart.true;
         kept = record {
@@ -133,15 +145,15 @@ either c P so = elim c.if-slot-hart.branch [
           slots = add-one c.index_mut-hart.result.now.slots;
           now_in = refl;
           harts = refl;
-          domains = ap (λ (d : ℕ). set c.self.inside.state.domains.items d c.step-hart.new.domain) c.from.ensures;
+          domains = ap (λ (d : ℕ). set c.self.inside.state.domains.items d c.run_until-hart.new.domain) c.from.ensures;
           used = refl;
         };
       })))
   | else-slot-hart w ↦
       subst (λ q. P (image_from q.image.now) q.state) (sym w.self-inside-is)
       (so _ (record {
-        core = c.step-hart.new.core;
-        clock = c.step-hart.result;
+        core = c.run_until-hart.new.core;
+        clock = c.run_until-hart.result;
         slots = c.index_mut-hart.result.now.slots;
         slot = c.index_mut-hart.result.now.slot;
       })
@@ -155,22 +167,38 @@ either c P so = elim c.if-slot-hart.branch [
           slots = refl;
           now_in = in_slot c;
           harts = refl;
-          domains = ap (λ (d : ℕ). set c.self.inside.state.domains.items d c.step-hart.new.domain) c.from.ensures;
+          domains = ap (λ (d : ℕ). set c.self.inside.state.domains.items d c.run_until-hart.new.domain) c.from.ensures;
           used = refl;
         };
       })))
 ]
 
+-- by one event or to the slot's end
+strides : (s : Stride) → (s ≡ stride.Event) ⊎ (s ≡ stride.Slot)
+strides stride.Event = inl refl
+strides stride.Slot = inr refl
+
 pub invariant_of-self : goal.invariant_of-self
 invariant_of-self c =
+    let i = image_from c.self.inside.image.now in
     let t = c.self.inside.state in
     let x = c.index_mut-hart.result.now in
+    let y = c.index_mut.result.now in
+    let slot = c.args.slot in
     let few =
     at_hart c.self.inside.image.now t c.args.self.now c.self.view_is c.args.h x (λ y. y.slots < 65536) (here c).got c.requires.slots in
-    either c IsReached (λ t' x' which.
-    reached_on (image_from c.self.inside.image.now) t c.args.h x (here c) c.args.slot (in_slot c)
-    c.index_mut.result.now (got_after c) (left c)
-    t' x' which c.step-hart.ensures.becomes few c.step-hart.ensures.few c.step-hart.ensures.later)
+    let counted = c.run_until-hart.ensures.few in
+    let later : x.clock < (left c).clock = omega (arith, c.until-until.ensures.later, c.run_until-hart.ensures.over) in
+    elim (strides c.args.stride) [
+      | inl one ↦
+          either c IsReached (λ t' x' which.
+          reached_on i t c.args.h x (here c) slot (in_slot c) y (got_after c) (left c) t' x' which
+          (c.run_until-hart.ensures.once (c.until-until.ensures.event one)) few counted later)
+      | inr all ↦
+          either c IsReached (λ t' x' which.
+          reached_through i t c.args.h x (here c) slot (in_slot c) y (got_after c) (left c) t' x' which
+          (c.run_until-hart.ensures.whole (c.until-until.ensures.slot all)) few counted later)
+    ]
 
 pub returns-clause-image : goal.returns-clause-image
 returns-clause-image c =
@@ -181,10 +209,19 @@ returns-clause-image c =
     ]
 
 pub returns-clause-next : goal.returns-clause-next
-returns-clause-next c =
+returns-clause-next c one =
     let t = c.self.inside.state in
     either c (λ i t'. NextStands (image_of c.args.self.now) c.args.h c.args.self.now.1 t') (λ t' x' which.
     to_value c.self.inside.image.now t c.args.self.now c.self.view_is (λ (i : Image) (u : State). NextStands i c.args.h u t')
     (gone_on (image_from c.self.inside.image.now) t c.args.h c.index_mut-hart.result.now (here c) c.args.slot
-    (in_slot c) c.index_mut.result.now
-    (got_after c) (left c) t' x' which c.step-hart.ensures.becomes))
+    (in_slot c) c.index_mut.result.now (got_after c) (left c) t' x' which
+    (c.run_until-hart.ensures.once (c.until-until.ensures.event one))))
+
+pub returns-clause-ends : goal.returns-clause-ends
+returns-clause-ends c all =
+    let t = c.self.inside.state in
+    either c (λ i t'. SlotEnds (image_of c.args.self.now) c.args.h c.args.self.now.1 t') (λ t' x' which.
+    to_value c.self.inside.image.now t c.args.self.now c.self.view_is (λ (i : Image) (u : State). SlotEnds i c.args.h u t')
+    (gone_through (image_from c.self.inside.image.now) t c.args.h c.index_mut-hart.result.now (here c) c.args.slot
+    (in_slot c) c.index_mut.result.now (got_after c) (left c) t' x' which
+    (c.run_until-hart.ensures.whole (c.until-until.ensures.slot all))))
