@@ -67,10 +67,10 @@ module _ (off : Option Guard) (i : Image) (d : ℕ) (w : World) (memory : Conten
   runs_there x got = sym (ap (λ (m : Dom). is_running m.status) (is.each_domain d x got).dom.same)
 
   -- the first moment that is due
-  first_there : first_among now domains (length domains) ≡ first_due i w (length i.owns)
+  first_there : first_among now domains (length domains) ≡ first_due i 0 w (length i.owns)
   first_there =
       among_is now domains i w is.all_domains is.machine.time next_there (length domains) (omega arith)
-      ∙ ap (first_due i w) is.all_domains
+      ∙ ap (first_due i 0 w) is.all_domains
 
   -- ---- an event of domain d itself
 
@@ -78,8 +78,8 @@ module _ (off : Option Guard) (i : Image) (d : ℕ) (w : World) (memory : Conten
   begun = part_of 0 d w
 
   own_if : (b : Bool) (o : Option Owned) (end : ℕ) → is_running (dom_of w d).status ≡ b
-      → first_due i w (length i.owns) ≡ o
-      → (b ≡ true → o ≡ None) → step_among g i d end w ≡ with_part 0 d w (step (setting_by g i d) end begun)
+      → first_due i 0 w (length i.owns) ≡ o
+      → (b ≡ true → o ≡ None) → step_among g i 0 d end w ≡ with_part 0 d w (step (setting_by g i d) end begun)
   unfolding step_among
   own_if true None end runs first none = rw (runs, first) refl
   own_if true (Some x) end runs first none = absurd (cc (none refl))
@@ -88,9 +88,9 @@ module _ (off : Option Guard) (i : Image) (d : ℕ) (w : World) (memory : Conten
   -- it doesn't run, or no moment is due
   pub own_event : (end : ℕ) (x : Domain) → slice_get domains d ≡ Some x
       → (is_running x.status ≡ true → first_among now domains (length domains) ≡ None)
-      → step_among g i d end w ≡ with_part 0 d w (step (setting_by g i d) end begun)
+      → step_among g i 0 d end w ≡ with_part 0 d w (step (setting_by g i d) end begun)
   own_event end x got none =
-      own_if (is_running (dom_of w d).status) (first_due i w (length i.owns)) end refl refl
+      own_if (is_running (dom_of w d).status) (first_due i 0 w (length i.owns)) end refl refl
       (λ runs. sym first_there ∙ none (sym (runs_there x got) ∙ runs))
 
   pub own_stands : (end : ℕ) (x y : Domain) (memory' : Contents) (system' : SystemContents AnyPolicy)
@@ -99,7 +99,7 @@ module _ (off : Option Guard) (i : Image) (d : ℕ) (w : World) (memory : Conten
       → (is_running x.status ≡ true → first_among now domains (length domains) ≡ None)
       → moves.StandsIn any_rule any_stands_for (setting_by g i d) memory' y system' later
       (step (setting_by g i d) end begun)
-      → StandsIn off i d (step_among g i d end w) memory' system' (set domains d y) later
+      → StandsIn off i d (step_among g i 0 d end w) memory' system' (set domains d y) later
   own_stands end x y memory' system' later got none over =
       let s = step (setting_by g i d) end begun in
       let to = own_event end x got none in
@@ -111,8 +111,8 @@ module _ (off : Option Guard) (i : Image) (d : ℕ) (w : World) (memory : Conten
   -- ---- a delivery, to any domain
 
   due_if : (b : Bool) (o : Owned) (end : ℕ) → is_running (dom_of w d).status ≡ b → b ≡ true
-      → first_due i w (length i.owns) ≡ Some o
-      → step_among g i d end w ≡ with_part 0 o.owner w (delivered (setting_by g i d) o.moment.line
+      → first_due i 0 w (length i.owns) ≡ Some o
+      → step_among g i 0 d end w ≡ with_part 0 o.owner w (delivered (setting_by g i d) o.moment.line
       (part_of 0 o.owner w))
   unfolding step_among
   due_if true o end runs t first = rw (runs, first) refl
@@ -120,7 +120,7 @@ module _ (off : Option Guard) (i : Image) (d : ℕ) (w : World) (memory : Conten
 
   delivery : (end : ℕ) (x : Domain) (o : Owned) → slice_get domains d ≡ Some x → x.status ≡ Running
       → first_among now domains (length domains) ≡ Some o
-      → step_among g i d end w ≡ with_part 0 o.owner w (delivered (setting_by g i d) o.moment.line
+      → step_among g i 0 d end w ≡ with_part 0 o.owner w (delivered (setting_by g i d) o.moment.line
       (part_of 0 o.owner w))
   delivery end x o got runs first =
       due_if (is_running (dom_of w d).status) o end refl (runs_there x got ∙ ap is_running runs)
@@ -146,7 +146,7 @@ module _ (off : Option Guard) (i : Image) (d : ℕ) (w : World) (memory : Conten
       → MakesTouches any_rule any_stands_for (operation system.core.costs (layout_model x.layout) work)
       cycles system system'
       → system'.core.tlb ≡ system.core.tlb → later ≡ now + cycles
-      → StandsIn off i d (step_among g i d end w) memory system' (set domains o.owner z) later
+      → StandsIn off i d (step_among g i 0 d end w) memory system' (set domains o.owner z) later
   unfolding with_part with_hart at put delivered
   due_stands end x y z o work system' cycles later got runs of_owner first becomes keeps work_is made
       buffer time =

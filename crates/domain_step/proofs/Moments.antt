@@ -113,7 +113,7 @@ module _ (now : ℕ) (domains : List Domain) where
           | inr past ↦ absurd (omega (arith, within, past.0))
         ]
 
-    pub among_is : (n : ℕ) → n ≤ length domains → first_among now domains n ≡ first_due i w n
+    pub among_is : (n : ℕ) → n ≤ length domains → first_among now domains n ≡ first_due i 0 w n
     unfolding first_among first_due
     among_is zero few = refl
     among_is (suc d) few = ap₂ first_of (among_is d (omega (arith, few))) (one_is d (omega (arith, few)))

@@ -31,12 +31,12 @@ module _ (d end : ℕ) (memory between memory' : Contents) (system middle system
   -- one event more
   pub along_more : clock < end
       → OpensAlong d end memory system old first between middle now clock
-      → Becomes (λ g i w. step_among g i d end w) d between middle now clock memory' system' new later
+      → Becomes (λ g i w. step_among g i 0 d end w) d between middle now clock memory' system' new later
       → OpensAlong d end memory system old first memory' system' new later
   along_more below so_far becomes off i w is =
       let (x, at, same) = so_far off i w is in
       let early : clock_of 0 x < end = subst (λ (n : ℕ). n < end) at.machine.time below in (
-        step_among (guards_of off i) i d end x,
+        step_among (guards_of off i) i 0 d end x,
         becomes off i x at,
         sym (open_step i (separated i at.runnable) (guards_of off i) d end x early) ∙ same,
       )
@@ -56,11 +56,11 @@ module _ (d end : ℕ) (memory memory' : Contents) (system system' : SystemConte
 -- they stand for some world still
 pub stands_on : (d : ℕ) (memory memory' : Contents) (system system' : SystemContents AnyPolicy)
     (old new : List Domain) (now later end : ℕ)
-    → Becomes (λ g i w. step_among g i d end w) d memory system old now memory' system' new later
+    → Becomes (λ g i w. step_among g i 0 d end w) d memory system old now memory' system' new later
     → Stands d memory system old now → Stands d memory' system' new later
 stands_on d memory memory' system system' old new now later end becomes s = record {
   off = s.off;
   image = s.image;
-  world = step_among (guards_of s.off s.image) s.image d end s.world;
+  world = step_among (guards_of s.off s.image) s.image 0 d end s.world;
   stands = becomes s.off s.image s.world s.stands;
 }

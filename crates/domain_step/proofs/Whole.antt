@@ -36,7 +36,7 @@ use Rattle.domain_step.specs.InSlot.{StandsIn}
 -- ---- a slot leaves what switches took
 
 module _ (g : Guards) (i : Image) (d end : ℕ) where
-  event_used : (w : World) (o : Option Owned) → (delivered_or_step g i d end w o).used ≡ w.used
+  event_used : (w : World) (o : Option Owned) → (delivered_or_step g i 0 d end w o).used ≡ w.used
   unfolding with_part with_hart
   event_used w None = refl
   event_used w (Some x) = refl
@@ -45,12 +45,12 @@ module _ (g : Guards) (i : Image) (d end : ℕ) where
   either_of P true x y h k = h
   either_of P false x y h k = k
 
-  events_used : (n : ℕ) (w : World) → (steps_among g i d end n w).used ≡ w.used
+  events_used : (n : ℕ) (w : World) → (steps_among g i 0 d end n w).used ≡ w.used
   unfolding steps_among step_among
   events_used zero w = refl
   events_used (suc n) w =
       either_of (λ (v : World). v.used ≡ w.used) (ltb (clock_of 0 w) end) _ w
-      (events_used n (step_among g i d end w) ∙ event_used w _) refl
+      (events_used n (step_among g i 0 d end w) ∙ event_used w _) refl
 
   slot_used : (b : Bool) (w : World) → (slot_if b g i d end w).used ≡ w.used
   unfolding own_slot with_part with_hart

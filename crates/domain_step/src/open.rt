@@ -79,7 +79,7 @@ fn step_among(
     requires before { now < end }
     requires end { end < 2 ^ 62 }
     requires few { CountUpTo now domains.old }
-    ensures becomes { Becomes (λ g i w. spec.step_among g i d end w) d
+    ensures becomes { Becomes (λ g i w. spec.step_among g i 0 d end w) d
         memory.old (system core.old l2.old) domains.old now memory.new (system core.new l2.new) domains.new result }
     ensures few { CountUpTo result domains.new }
     ensures same { length domains.new ≡ length domains.old }

@@ -15,16 +15,16 @@ module _ (m : Machine) (is : IsMachine m) (n : ℕ) where
   abbrev pub InsideLeft : m.World → Type 0
   InsideLeft w = (h : ℕ) → h < m.harts → m.inside h w ≡ true → m.slots h w < n
 
-  own_left : (h : ℕ) (w : m.World) → m.slots h w < n → (b : Bool) → m.inside h w ≡ b → m.inside h (m.next h w) ≡ true
+  own_left : (h : ℕ) (w : m.World) → h < m.harts → m.IsSound w → m.slots h w < n → (b : Bool) → m.inside h w ≡ b → m.inside h (m.next h w) ≡ true
       → m.slots h (m.next h w) < n
-  own_left h w left true now after = let same = is.goes_on h w now after in omega (arith, left, same)
-  own_left h w left false out after = let same = is.begins_slot h w out in omega (arith, left, same)
+  own_left h w there s left true now after = let same = is.goes_on h w now after in omega (arith, left, same)
+  own_left h w there s left false out after = let same = is.begins_slot h w there s out in omega (arith, left, same)
 
   pub next_left : (h : ℕ) (w : m.World) → h < m.harts → m.IsSound w → m.slots h w < n → InsideLeft w
       → InsideLeft (m.next h w)
   next_left h w there s left all g =
       this_or (λ j. j < m.harts → m.inside j (m.next h w) ≡ true → m.slots j (m.next h w) < n) h
-      (λ _ after. own_left h w left (m.inside h w) refl after)
+      (λ _ after. own_left h w there s left (m.inside h w) refl after)
       (λ j ne there' after.
       let same = is.as_far j _ w (is.others j h w there ne s) in
       let before = all j there' (sym same.inside ∙ after) in

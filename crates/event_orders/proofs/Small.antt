@@ -200,8 +200,8 @@ module _ (p : Small) where
       rises = λ h w there s. rises_if h w (hart_of h w).inside refl (s.each h there);
       early = λ h w there s now. subst (InTime p h (hart_of h w)) now (s.each h there);
       before = λ h n w there s less. before_if h n (hart_of h w) (hart_of h w).inside (s.each h there) less;
-      begins = λ h w out. ap (λ (x : Hart). x.inside) (hart_turns h w out);
-      begins_slot = λ h w out. ap (λ (x : Hart). x.slots) (hart_turns h w out);
+      begins = λ h w there s out. ap (λ (x : Hart). x.inside) (hart_turns h w out);
+      begins_slot = λ h w there s out. ap (λ (x : Hart). x.slots) (hart_turns h w out);
       goes_on = λ h w now after. goes_on h w now after;
       ends = λ h w now after. ends h w now after;
     }

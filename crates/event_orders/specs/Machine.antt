@@ -50,8 +50,10 @@ pub record IsMachine (m : Machine) : Type 0 where
   -- a hart that has had fewer slots is before this one's start
   pub before : (h n : ℕ) (w : m.World) → h < m.harts → m.IsSound w → m.slots h w < n → m.clock h w < m.start h n
   -- a switch begins a slot; an event of a slot stays in it, or ends it
-  pub begins : (h : ℕ) (w : m.World) → m.inside h w ≡ false → m.inside h (m.next h w) ≡ true
-  pub begins_slot : (h : ℕ) (w : m.World) → m.inside h w ≡ false → m.slots h (m.next h w) ≡ m.slots h w
+  pub begins : (h : ℕ) (w : m.World) → h < m.harts → m.IsSound w → m.inside h w ≡ false
+      → m.inside h (m.next h w) ≡ true
+  pub begins_slot : (h : ℕ) (w : m.World) → h < m.harts → m.IsSound w → m.inside h w ≡ false
+      → m.slots h (m.next h w) ≡ m.slots h w
   pub goes_on : (h : ℕ) (w : m.World) → m.inside h w ≡ true → m.inside h (m.next h w) ≡ true
       → m.slots h (m.next h w) ≡ m.slots h w
   pub ends : (h : ℕ) (w : m.World) → m.inside h w ≡ true → m.inside h (m.next h w) ≡ false

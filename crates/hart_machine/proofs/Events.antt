@@ -1,12 +1,13 @@
 -- What a hart's event makes of the world, of its progress and of the switches' cycles.
-use Rattle.std.proofs.Common.{◌≡◌, ℕ, suc, Bool, true, false, true≢false, ltb, [], ◌∷◌, ◌++◌, ap, sym, ◌∙◌, refl}
+use Rattle.std.proofs.Common.{None, ◌≡◌, ℕ, suc, Bool, true, false, true≢false, ltb, [], ◌∷◌, ◌++◌, ap, sym, ◌∙◌, refl, ◌<◌}
 use Rattle.std.specs.Prelude.{if◌then◌else◌}
 use Rattle.sched_table.specs.Schedule.{switch_entry, place_on}
 use Rattle.image_check.specs.Image.{Image}
 use Rattle.world_view.specs.Machine.{World, clock_of, with_part, with_hart, guarded, switch_on, cycles_on}
-use Rattle.world_view.specs.Harts.{Harts, Progress, image_on, end_on, progress_of, slots_of, proceeds, begins, runs, goes_on, next}
+use Rattle.world_view.specs.Harts.{Harts, Progress, image_on, end_on, progress_of, slots_of, proceeds, begins, runs, goes_on, next, next_by, settles}
 use Rattle.world_view.proofs.harts.Runs.{progress-same}
-use Rattle.world_view.proofs.harts.Clocks.{begun_world}
+use Rattle.world_view.proofs.harts.Events.{begun_world, begins_in}
+use Rattle.world_view.proofs.harts.Always.{next_out}
 
 -- in its slot k still, or past its end
 abbrev pub stands : ℕ → Bool → Progress
@@ -26,19 +27,19 @@ module _ (i : Image) (h : ℕ) (s : Harts) where
   k = slots_of h s
 
   abbrev pub ran : World
-  ran = runs i h k s.world
+  ran = runs None i h k s.world
 
   -- whether its slot goes on
   abbrev pub is_early : Bool
   is_early = ltb (clock_of h ran) (end_on i h k)
 
-  works : (progress_of h s).inside ≡ true → next i h s ≡ goes_on i h s
-  unfolding next
-  works now = ap (λ (b : Bool). if b then goes_on i h s else begins i h s) now
+  works : (progress_of h s).inside ≡ true → next i h s ≡ goes_on None i h s
+  unfolding next_by
+  works now = ap (λ (b : Bool). if b then goes_on None i h s else begins None i h s) now
 
-  turns : (progress_of h s).inside ≡ false → next i h s ≡ begins i h s
-  unfolding next
-  turns out = ap (λ (b : Bool). if b then goes_on i h s else begins i h s) out
+  turns : (progress_of h s).inside ≡ false → next i h s ≡ begins None i h s
+  unfolding next_by
+  turns out = ap (λ (b : Bool). if b then goes_on None i h s else begins None i h s) out
 
   -- ---- an event of a slot
 
@@ -53,15 +54,15 @@ module _ (i : Image) (h : ℕ) (s : Harts) where
   progress_if false = progress-same h s ran (suc k) false
 
   pub works_world : (progress_of h s).inside ≡ true → (next i h s).world ≡ ran
-  unfolding goes_on
+  unfolding goes_on settles guarded
   works_world now = ap (λ (t : Harts). t.world) (works now) ∙ world_if is_early
 
   pub works_progress : (progress_of h s).inside ≡ true → progress_of h (next i h s) ≡ stands k is_early
-  unfolding goes_on
+  unfolding goes_on settles guarded
   works_progress now = ap (progress_of h) (works now) ∙ progress_if is_early
 
   ran_used : ran.used ≡ s.world.used
-  unfolding runs with_part with_hart
+  unfolding runs with_part with_hart guarded
   ran_used = refl
 
   pub works_used : (progress_of h s).inside ≡ true → (next i h s).world.used ≡ s.world.used
@@ -69,19 +70,10 @@ module _ (i : Image) (h : ℕ) (s : Harts) where
 
   -- ---- a switch
 
-  begins_world : (begins i h s).world ≡ begun_world i h s
-  unfolding begins proceeds
-  begins_world = refl
-
-  begins_progress : progress_of h (begins i h s) ≡ record { slots = k; inside = true }
-  unfolding begins
-  begins_progress = progress-same h s (begun_world i h s) k true
-
-  pub turns_world : (progress_of h s).inside ≡ false → (next i h s).world ≡ begun_world i h s
-  turns_world out = ap (λ (t : Harts). t.world) (turns out) ∙ begins_world
-
-  pub turns_progress : (progress_of h s).inside ≡ false → progress_of h (next i h s) ≡ record { slots = k; inside = true }
-  turns_progress out = ap (progress_of h) (turns out) ∙ begins_progress
+  pub turns_progress : (progress_of h s).inside ≡ false → clock_of h (begun_world i h s) < end_on i h k
+      → progress_of h (next i h s) ≡ record { slots = k; inside = true }
+  turns_progress out soon =
+      ap (progress_of h) (turns out ∙ begins_in i h s soon) ∙ progress-same h s (begun_world i h s) k true
 
   -- to which entry it belongs, and its cycles
   abbrev pub place : ℕ → ℕ
@@ -96,4 +88,4 @@ module _ (i : Image) (h : ℕ) (s : Harts) where
 
   pub turns_used : (progress_of h s).inside ≡ false
       → (next i h s).world.used ≡ s.world.used ++ (place k, cycles k s.world) ∷ []
-  turns_used out = ap (λ (w : World). w.used) (turns_world out) ∙ begun_used
+  turns_used out = ap (λ (w : World). w.used) (next_out i h s out) ∙ begun_used

@@ -1,5 +1,5 @@
 -- An image's harts are one of the machines that the laws of orders are about.
-use Rattle.std.proofs.Common.{◌≡◌, ◌≢◌, ◌⊎◌, inl, inr, ℕ, ◌<◌, Bool, true, false, ltb, List, [], ◌∷◌, ◌++◌, ap, ap₂, sym, ◌∙◌, subst}
+use Rattle.std.proofs.Common.{None, ◌≡◌, ◌≢◌, ◌⊎◌, inl, inr, ℕ, ◌<◌, Bool, true, false, ltb, List, [], ◌∷◌, ◌++◌, ap, ap₂, sym, ◌∙◌, subst}
 use Rattle.event_orders.specs.Machine.{IsMachine}
 use Rattle.image_check.specs.Image.{Image}
 use Rattle.image_check.specs.Laws.{Runnable}
@@ -9,16 +9,18 @@ use Rattle.world_view.specs.Relations.{Resident, InTime}
 use Rattle.world_view.specs.Harts.{Harts, Progress, image_on, end_on, progress_of, slots_of, runs, next, harts}
 use Rattle.world_view.proofs.harts.Events.{switched}
 use Rattle.world_view.proofs.harts.Runs.{next_so}
-use Rattle.world_view.proofs.harts.Clocks.{begun_world, hart_stays}
+use Rattle.world_view.proofs.harts.Clocks.{hart_stays}
+use Rattle.world_view.proofs.harts.Events.{begun_world}
+use Rattle.world_view.proofs.harts.Always.{next_out}
 use Rattle.hart_machine.specs.HartMachine.{IsReached, SameParts, SameHart, SameNobodys, SameShared, machine_of}
 use Rattle.hart_machine.proofs.Equal.{same_hart, nobodys_back, nobodys_on, same_shared}
 use Rattle.hart_machine.proofs.Work.{IsIn, runs_leaves, runs_same}
 use Rattle.hart_machine.proofs.Turns.{switched_same}
 use Rattle.hart_machine.proofs.Costs.{switched_leaves, cycles_alike}
 use Rattle.hart_machine.proofs.Events as events
-use Rattle.hart_machine.proofs.Events.{stands, ran, is_early, place, cycles, works_world, works_progress, works_used, turns_world, turns_progress, turns_used}
+use Rattle.hart_machine.proofs.Events.{stands, ran, is_early, place, cycles, works_world, works_progress, works_used, turns_progress, turns_used}
 use Rattle.hart_machine.proofs.Reached as reached
-use Rattle.hart_machine.proofs.Reached.{next_reached, first_of, none_used, run, is_in, is_in_time}
+use Rattle.hart_machine.proofs.Reached.{next_reached, first_of, none_used, run, is_in, is_in_time, begun_soon}
 
 -- what is noted of a switch is no hart's
 noted_same : (i : Image) (h e f c d : ℕ) (w v : World) → SameParts i h w v → SameParts i h (noted e c w) (noted f d v)
@@ -44,7 +46,7 @@ module _ (i : Image) (r : Runnable i) where
   turn_leaves h s there a out here =
       let k = slots_of h s in
       let left = switched_leaves i r h there k s.world (record { time = is_in_time i r s a h there out; there = here }) in
-      subst (λ (w : World). SameNobodys i w s.world) (sym (turns_world i h s out))
+      subst (λ (w : World). SameNobodys i w s.world) (sym (next_out i h s out))
       (record { frames = left.frames; sets = left.sets; kernels = left.kernels })
 
   -- ---- another hart
@@ -79,10 +81,10 @@ module _ (i : Image) (r : Runnable i) where
       now_too : (progress_of h t).inside ≡ true
       now_too = inside_too true now
 
-      ran_too : (next i h t).world ≡ runs i h k t.world
-      ran_too = works_world i h t now_too ∙ ap (λ (n : ℕ). runs i h n t.world) slots
+      ran_too : (next i h t).world ≡ runs None i h k t.world
+      ran_too = works_world i h t now_too ∙ ap (λ (n : ℕ). runs None i h n t.world) slots
 
-      ran_same : SameParts i h (runs i h k s.world) (runs i h k t.world)
+      ran_same : SameParts i h (runs None i h k s.world) (runs None i h k t.world)
       ran_same =
           runs_same i r h there k s.world t.world (is_in i r s a h there now)
           (subst (λ (n : ℕ). IsIn i r h there n t.world) slots (is_in i r t b h there now_too)) same.parts
@@ -90,13 +92,13 @@ module _ (i : Image) (r : Runnable i) where
       early_alike : is_early i h s ≡ is_early i h t
       early_alike =
           ap (λ (x : Hart). ltb x.clock (end_on i h k)) ran_same.hart
-          ∙ ap (λ (n : ℕ). ltb (clock_of h (runs i h n t.world)) (end_on i h n)) (sym slots)
+          ∙ ap (λ (n : ℕ). ltb (clock_of h (runs None i h n t.world)) (end_on i h n)) (sym slots)
 
       pub work : SameHart i h (next i h s) (next i h t)
       work = record {
         parts =
             subst (λ (w : World). SameParts i h w (next i h t).world) (sym (works_world i h s now))
-            (subst (SameParts i h (runs i h k s.world)) (sym ran_too) ran_same);
+            (subst (SameParts i h (runs None i h k s.world)) (sym ran_too) ran_same);
         progress = works_progress i h s now ∙ ap₂ stands (sym slots) early_alike ∙ sym (works_progress i h t now_too);
       }
 
@@ -119,10 +121,11 @@ module _ (i : Image) (r : Runnable i) where
       pub turn : SameHart i h (next i h s) (next i h t)
       turn = record {
         parts =
-            subst (λ (w : World). SameParts i h w (next i h t).world) (sym (turns_world i h s out))
-            (subst (SameParts i h (begun_world i h s)) (sym (turns_world i h t out_too)) begun_same);
-        progress = turns_progress i h s out ∙ ap (λ (n : ℕ). record { slots = n; inside = true }) (sym slots)
-            ∙ sym (turns_progress i h t out_too);
+            subst (λ (w : World). SameParts i h w (next i h t).world) (sym (next_out i h s out))
+            (subst (SameParts i h (begun_world i h s)) (sym (next_out i h t out_too)) begun_same);
+        progress = turns_progress i h s out (begun_soon i r s a h there out)
+            ∙ ap (λ (n : ℕ). record { slots = n; inside = true }) (sym slots)
+            ∙ sym (turns_progress i h t out_too (begun_soon i r t b h there out_too));
       }
 
       -- ---- what it took
@@ -182,8 +185,8 @@ module _ (i : Image) (r : Runnable i) where
     rises = λ h s there a. reached.rises i r s a h there;
     early = λ h s there a now. reached.early i r s a h there now;
     before = λ h n s there a less. reached.before i r s a h there n less;
-    begins = λ h s out. ap (λ (x : Progress). x.inside) (turns_progress i h s out);
-    begins_slot = λ h s out. ap (λ (x : Progress). x.slots) (turns_progress i h s out);
+    begins = λ h s there a out. ap (λ (x : Progress). x.inside) (turns_progress i h s out (begun_soon i r s a h there out));
+    begins_slot = λ h s there a out. ap (λ (x : Progress). x.slots) (turns_progress i h s out (begun_soon i r s a h there out));
     goes_on = λ h s now after.
         ap (λ (x : Progress). x.slots) (works_progress i h s now)
         ∙ events.stands_goes (slots_of h s) (is_early i h s) (ap (λ (x : Progress). x.inside) (sym (works_progress i h s now)) ∙ after);

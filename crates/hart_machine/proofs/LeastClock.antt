@@ -8,7 +8,7 @@ use Rattle.event_orders.specs.Orders.{Ran, first, with_switch, by_events, cycles
 use Rattle.image_check.specs.Image.{Image}
 use Rattle.sched_table.specs.Schedule.{harts_in}
 use Rattle.world_view.specs.Machine.{clock_of}
-use Rattle.world_view.specs.Harts.{Harts, slots_of, next, after, harts}
+use Rattle.world_view.specs.Harts.{Harts, slots_of, next, after, harts, after_by, harts_by}
 use Rattle.world_view.proofs.harts.Runs.{all_cold_are}
 use Rattle.hart_orders.specs.declared.choice.Choice.TheVariants.{LeastClock}
 use Rattle.hart_orders.specs.Order.{left, earlier, least, chosen, next_hart, events_from, cycles_before, order_of, ran}
@@ -65,13 +65,13 @@ module _ (i : Image) (n : ℕ) where
   world_if : (f j : ℕ) (s : Harts)
       → ((t : Harts) → after i (events_from i LeastClock n f (suc j) t) t ≡ (by_events m n f t).world)
       → (o : Option ℕ) → after i (events_if f j s o) s ≡ (ran_if f s o).world
-  unfolding after
+  unfolding after_by
   world_if f j s ih None = refl
   world_if f j s ih (Some h) =
       ih (next i h s) ∙ world_either (m.inside h s) (m.clock h s, h) (by_events m n f (next i h s))
 
   world_is : (f j : ℕ) (s : Harts) → after i (events_from i LeastClock n f j s) s ≡ (by_events m n f s).world
-  unfolding events_from by_events after
+  unfolding events_from by_events after_by
   world_is zero j s = refl
   world_is (suc f) j s =
       ap (λ (o : Option ℕ). after i (events_if f j s o) s) (next_is j s) ∙ world_if f j s (world_is f (suc j)) (first m n s many)
@@ -79,7 +79,7 @@ module _ (i : Image) (n : ℕ) where
   -- ---- from the first one on, and as many at most
 
   cold_clock : (h : ℕ) → h < many → clock_of h (harts i []).world ≡ 0
-  unfolding harts after
+  unfolding harts_by after_by
   cold_clock h there = (all_cold_are i many h there).clock
 
   pub cycles_are : (b : ℕ) → b ≤ many → cycles_left m n (harts i []) b ≡ cycles_before i n b
@@ -91,7 +91,7 @@ module _ (i : Image) (n : ℕ) where
       omega (arith, below, clock)
 
   from_first : (order : List ℕ) → harts i order ≡ after i order (harts i [])
-  unfolding harts after
+  unfolding harts_by after_by
   from_first order = refl
 
 pub ran_law : RanLaw

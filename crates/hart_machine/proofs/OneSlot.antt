@@ -6,7 +6,7 @@ use Rattle.event_orders.proofs.OneSlot.{one_slot_law}
 use Rattle.image_check.specs.Image.{Image}
 use Rattle.image_check.specs.Laws.{Runnable}
 use Rattle.sched_table.specs.Schedule.{harts_in}
-use Rattle.world_view.specs.Harts.{Harts, progress_of, slots_of, next, after, harts}
+use Rattle.world_view.specs.Harts.{Harts, progress_of, slots_of, next, after, harts, after_by}
 use Rattle.world_view.specs.HartLaws.{AreHartsOf, IsBetween}
 use Rattle.world_view.proofs.harts.Clocks.{hart_begun}
 use Rattle.hart_orders.proofs.Through.{harts_appended}
@@ -16,7 +16,7 @@ use Rattle.hart_machine.proofs.IsMachine.{is_machine}
 
 module _ (i : Image) (h : ℕ) where
   run_is : (k : ℕ) (s : Harts) → after i (replicate k h) s ≡ run (machine_of i) h k s
-  unfolding run after
+  unfolding run after_by
   run_is zero s = refl
   run_is (suc k) s = run_is k (next i h s)
 

@@ -7,10 +7,10 @@ use Rattle.sched_table.specs.Schedule.{on_hart, start, harts_in}
 use Rattle.sched_table.proofs.Starts.{order_law}
 use Rattle.world_view.specs.Machine.{clock_of}
 use Rattle.world_view.specs.Relations.{InTime}
-use Rattle.world_view.specs.Harts.{Harts, Progress, image_on, domain_in, start_on, end_on, progress_of, slots_of, next, after, harts}
+use Rattle.world_view.specs.Harts.{Harts, Progress, image_on, domain_in, start_on, end_on, progress_of, slots_of, next, after, harts, after_by, harts_by}
 use Rattle.world_view.specs.HartLaws.{IsBetween}
 use Rattle.world_view.proofs.harts.OnHart.{separated_on}
-use Rattle.world_view.proofs.harts.Events.{IsHart}
+use Rattle.world_view.proofs.harts.Events.{IsHart, begun_world, switch_inside}
 use Rattle.world_view.proofs.harts.Runs.{Running, there_if, used_cold}
 use Rattle.world_view.proofs.harts.Clocks.{hart_between, hart_rises}
 use Rattle.world_view.proofs.harts.Isolation.{at_first, running, next_law}
@@ -39,7 +39,7 @@ module _ (i : Image) where
       omega (arith, more)
 
   used_grows : (order : List ℕ) (s : Harts) → length s.world.used ≤ length (after i order s).world.used
-  unfolding after
+  unfolding after_by
   used_grows [] s = omega arith
   used_grows (h ∷ hs) s =
       let one = used_if h s (progress_of h s).inside refl in
@@ -48,7 +48,7 @@ module _ (i : Image) where
 
   grows_after : (h : ℕ) (hs : List ℕ)
       → length (next i h (harts i [])).world.used ≤ length (harts i (h ∷ hs)).world.used
-  unfolding harts after
+  unfolding harts_by after_by
   grows_after h hs = used_grows hs (next i h (harts i []))
 
   first_used : Runnable i → (h : ℕ) → 0 < length (next i h (harts i [])).world.used
@@ -72,7 +72,7 @@ module _ (i : Image) where
 
   -- no event, and so no switch
   pub none_used : (harts i []).world.used ≡ []
-  unfolding harts after
+  unfolding harts_by after_by
   none_used = used_cold i many
 
 module _ (i : Image) (r : Runnable i) (s : Harts) (a : IsReached i s) where
@@ -94,6 +94,10 @@ module _ (i : Image) (r : Runnable i) (s : Harts) (a : IsReached i s) where
 
     pub is_in_time : (progress_of h s).inside ≡ false → InTime (image_on i h) h (slots_of h s) s.world
     is_in_time out = its false out
+
+    -- where that leads, the slot has not ended
+    pub begun_soon : (progress_of h s).inside ≡ false → clock_of h (begun_world i h s) < end_on i h (slots_of h s)
+    begun_soon out = (switch_inside i r h there (slots_of h s) s.world (is_in_time out)).soon
 
     -- ---- time
 

@@ -13,7 +13,7 @@ use Rattle.image_check.specs.Image.{Image, own_of}
 use Rattle.image_check.specs.Laws.{Runnable}
 use Rattle.sched_table.specs.Schedule.{harts_in}
 use Rattle.world_view.specs.Machine.{World, Hart}
-use Rattle.world_view.specs.Harts.{Harts, Progress, hart_of_domain, next, after, harts}
+use Rattle.world_view.specs.Harts.{Harts, Progress, hart_of_domain, next, after, harts, after_by, harts_by}
 use Rattle.world_view.proofs.runs.WholeLaws.{same_view}
 use Rattle.world_view.proofs.harts.Runs.{home}
 use Rattle.world_view.proofs.harts.Isolation.{at_first}
@@ -43,12 +43,12 @@ module _ (i : Image) (r : Runnable i) where
 
 -- an order's events are the same by both names
 after_is : (i : Image) (order : List ℕ) (s : Harts) → orders.after (machine_of i) order s ≡ after i order s
-unfolding orders.after after
+unfolding orders.after after_by
 after_is i [] s = refl
 after_is i (h ∷ hs) s = after_is i hs (next i h s)
 
 harts_are : (i : Image) (order : List ℕ) → orders.after (machine_of i) order (harts i []) ≡ harts i order
-unfolding harts after
+unfolding harts_by after_by
 harts_are i order = after_is i order (harts i [])
 
 pub through : ThroughLaw

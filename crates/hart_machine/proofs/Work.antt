@@ -1,5 +1,5 @@
 -- An event of a slot, from two worlds that are the same for its hart.
-use Rattle.std.proofs.Common.{◌≡◌, ◌≢◌, ◌⊎◌, inl, inr, ℕ, ◌<◌, true, false, ap, sym, ◌∙◌, refl, subst}
+use Rattle.std.proofs.Common.{None, ◌≡◌, ◌≢◌, ◌⊎◌, inl, inr, ℕ, ◌<◌, true, false, ap, sym, ◌∙◌, refl, subst}
 use Rattle.std.proofs.lemmas.Bool.{cases_eq}
 use Rattle.mem_system.specs.Cost.{Caches}
 use Rattle.mem_system.specs.Sharing.{SameKernelPlaces}
@@ -8,7 +8,7 @@ use Rattle.sched_table.specs.Schedule.{harts_in}
 use Rattle.hardware_check.specs.Hardware.{Hardware}
 use Rattle.image_check.specs.Image.{Image, own_of}
 use Rattle.image_check.specs.Laws.{Runnable}
-use Rattle.world_view.specs.Machine.{Hart, World, hart_of, caches_of, dom_of, part_of, with_part, with_hart, setting, step}
+use Rattle.world_view.specs.Machine.{guarded, Hart, World, hart_of, caches_of, dom_of, part_of, with_part, with_hart, setting, step}
 use Rattle.world_view.specs.Relations.{IsDomain, HasFacts, Resident, Within, Apiece}
 use Rattle.world_view.specs.Cost.{hierarchy, region, own_colour}
 use Rattle.world_view.specs.EventLaws.{step_touches}
@@ -39,8 +39,8 @@ module _ (i : Image) (r : Runnable i) (h : ℕ) (is : h < harts_in i.all.schedul
     pub there : Resident p (caches_of h w)
 
   -- the places of the kernel's sets stay: what the event touches of colour 0 are shared lines, and these are there
-  ran_places : (u : World) → IsIn u → SameKernelPlaces (hierarchy p) (runs i h k u).l2 u.l2
-  unfolding runs with_part with_hart
+  ran_places : (u : World) → IsIn u → SameKernelPlaces (hierarchy p) (runs None i h k u).l2 u.l2
+  unfolding runs with_part with_hart guarded
   ran_places u c =
       let o = own_of i its in
       let s = part_of h its u in
@@ -50,8 +50,8 @@ module _ (i : Image) (r : Runnable i) (h : ℕ) (is : h < harts_in i.all.schedul
       (step_may p o kernel (end_on i h k) s c.facts) c.inside.dirty c.there)
 
   -- and so does what is nobody's
-  pub runs_leaves : (u : World) → IsIn u → SameNobodys i (runs i h k u) u
-  unfolding runs with_part with_hart
+  pub runs_leaves : (u : World) → IsIn u → SameNobodys i (runs None i h k u) u
+  unfolding runs with_part with_hart guarded
   runs_leaves u c =
       let s = part_of h its u in
       let stepped = step_near p (own_of i its) (end_on i h k) s s s (record {
@@ -74,10 +74,10 @@ module _ (i : Image) (r : Runnable i) (h : ℕ) (is : h < harts_in i.all.schedul
 
   module _ (w v : World) (a : IsIn w) (b : IsIn v) (same : SameParts i h w v) where
     abbrev w' : World
-    w' = runs i h k w
+    w' = runs None i h k w
 
     abbrev v' : World
-    v' = runs i h k v
+    v' = runs None i h k v
 
     -- of the domain whose slot it is: each is as the step of the same state where the kernel's lines are pinned
     own_same : Within p (own_of i its) (part_of h its w') (part_of h its v')
@@ -90,7 +90,7 @@ module _ (i : Image) (r : Runnable i) (h : ℕ) (is : h < harts_in i.all.schedul
         (within_itself p (own_of i its) (part_of h its v))))
 
     others_left : (u : World) → IsIn u → (d : ℕ) → IsDomain i d → d ≢ its
-        → Apiece p (own_of i d) (part_of h d (runs i h k u)) (part_of h d u)
+        → Apiece p (own_of i d) (part_of h d (runs None i h k u)) (part_of h d u)
     others_left u c d id other =
         let left = step_leaves i r h is k u c.inside c.facts d id other in record { dom = left.0; part = left.1 }
 
@@ -104,7 +104,7 @@ module _ (i : Image) (r : Runnable i) (h : ℕ) (is : h < harts_in i.all.schedul
         (apiece_trans p (own_of i d) (part_of h d w) (part_of h d v) (part_of h d v') (same.domains d id home)
         (apiece_back p (own_of i d) (part_of h d v') (part_of h d v) (others_left v b d id other)))
 
-    ended_left : (u : World) → IsIn u → (hart_of h (runs i h k u)).ended ≡ (hart_of h u).ended
+    ended_left : (u : World) → IsIn u → (hart_of h (runs None i h k u)).ended ≡ (hart_of h u).ended
     ended_left u c = ap (λ (x : Hart). x.ended) (ran-hart i r h is k u c.inside c.facts)
 
     pub runs_same : SameParts i h w' v'

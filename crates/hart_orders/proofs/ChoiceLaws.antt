@@ -1,5 +1,5 @@
 -- What is seen after the order of a choice, whatever the choice.
-use Rattle.std.proofs.Common.{◌≡◌, ◌∙◌, ℕ, ◌<◌, Bool, true, false, List, ap, refl, subst, arith}
+use Rattle.std.proofs.Common.{None, ◌≡◌, ◌∙◌, ℕ, ◌<◌, Bool, true, false, List, ap, refl, subst, arith}
 use Rattle.sched_table.specs.Schedule.{harts_in}
 use Rattle.image_check.specs.Image.{Image}
 use Rattle.image_check.specs.Laws.{Runnable}
@@ -46,4 +46,4 @@ one_hart_run i c n r one =
     let is : 0 < harts_in i.all.schedule = omega (arith, one) in
     let there = through i c n 0 r is in
     let outside = outside_if i 0 order r below is there.1 (progress_of 0 (harts i order)).inside refl in
-    subst (λ (k : ℕ). SameWorld (whole i k) (harts i order).world) there.0 (whole_law i order r one below outside)
+    subst (λ (k : ℕ). SameWorld (whole i k) (harts i order).world) there.0 (whole_law None i order r one below outside)

@@ -8,12 +8,13 @@ use Rattle.sched_table.specs.Schedule.{harts_in, on_hart, start}
 use Rattle.sched_table.proofs.Starts.{order_law}
 use Rattle.image_check.specs.Image.{Image}
 use Rattle.image_check.specs.Laws.{Runnable}
-use Rattle.world_view.specs.Machine.{Hart, World, clock_of}
-use Rattle.world_view.specs.Harts.{Harts, Progress, progress_of, slots_of, start_on, end_on, proceeds, begins, runs, goes_on, next, after, harts}
+use Rattle.world_view.specs.Machine.{guarded, Hart, World, clock_of}
+use Rattle.world_view.specs.Harts.{Harts, Progress, progress_of, slots_of, start_on, end_on, proceeds, begins, runs, goes_on, next, after, harts, next_by, after_by, harts_by, settles}
 use Rattle.world_view.specs.HartLaws.{AreHartsOf, IsBetween}
 use Rattle.world_view.proofs.harts.Events.{IsInside, IsHart}
 use Rattle.world_view.proofs.harts.Runs.{Running, progress-same}
-use Rattle.world_view.proofs.harts.Clocks.{begun_world, hart_between, hart_rises, hart_stays}
+use Rattle.world_view.proofs.harts.Clocks.{hart_between, hart_rises, hart_stays}
+use Rattle.world_view.proofs.harts.Events.{begun_world}
 use Rattle.world_view.proofs.harts.Isolation.{running, next_law}
 use Rattle.hart_orders.specs.declared.choice.Choice.{Choice}
 use Rattle.hart_orders.specs.Order.{next_hart, events_from, cycles_before, order_of}
@@ -44,7 +45,7 @@ module _ (i : Image) (c : Choice) (n : ℕ) where
   chosen_if : (f j : ℕ) (s : Harts) → ((t : Harts) → AreChosen (suc j) t (events_from i c n f (suc j) t))
       → (o : Option ℕ)
       → next_hart i c n j s ≡ o → AreChosen j s (event_if i c n f j s o)
-  unfolding after
+  unfolding after_by
   chosen_if f j s rest None is before later h e = absurd (not_nil before later h e)
   chosen_if f j s rest (Some g) is [] later h e =
       let now : j ≡ j + 0 = omega arith in
@@ -61,7 +62,7 @@ module _ (i : Image) (c : Choice) (n : ℕ) where
   chosen_from (suc f) j s = chosen_if f j s (chosen_from f (suc j)) (next_hart i c n j s) refl
 
 pub each_chosen : EachChosenLaw
-unfolding order_of harts after
+unfolding order_of harts_by after_by
 each_chosen i c n h before later e =
     let now : 0 + length before ≡ length before = omega arith in
     subst (λ (m : ℕ). next_hart i c n m (harts i before) ≡ Some h) now
@@ -80,15 +81,17 @@ module _ (i : Image) (h : ℕ) (s : Harts) where
   goes_if true w = inl (progress-same h s w (slots_of h s) true)
   goes_if false w = inr (progress-same h s w (suc (slots_of h s)) false)
 
-  next_if : (b : Bool) → GoesOn (progress_of h (if b then goes_on i h s else begins i h s))
-  unfolding begins goes_on
+  next_if : (b : Bool) → GoesOn (progress_of h (if b then goes_on None i h s else begins None i h s))
+  unfolding begins goes_on settles guarded
   next_if true =
-      let w = runs i h (slots_of h s) s.world in
+      let w = runs None i h (slots_of h s) s.world in
       goes_if (ltb (clock_of h w) (end_on i h (slots_of h s))) w
-  next_if false = inl (progress-same h s (begun_world i h s) (slots_of h s) true)
+  next_if false =
+      let w = begun_world i h s in
+      goes_if (ltb (clock_of h w) (end_on i h (slots_of h s))) w
 
   goes : GoesOn (progress_of h (next i h s))
-  unfolding next
+  unfolding next_by
   goes = next_if (progress_of h s).inside
 
 -- ---- how far harts are
@@ -217,7 +220,7 @@ module _ (i : Image) (r : Runnable i) (n : ℕ) where
     through_if : (f j : ℕ) (s : Harts) → Going s → remaining s many ≤ suc f
         → ((t : Harts) → Going t → remaining t many ≤ f → Through (after i (events_from i c n f (suc j) t) t))
         → (o : Option ℕ) → next_hart i c n j s ≡ o → Through (after i (event_if i c n f j s o) s)
-    unfolding after
+    unfolding after_by
     through_if f j s going most rest None e = record { going = going; all = nobody i c n j s e }
     through_if f j s going most rest (Some h) e =
         let is = has_left i c n j h s e in
@@ -226,12 +229,12 @@ module _ (i : Image) (r : Runnable i) (n : ℕ) where
 
     through_from : (f j : ℕ) (s : Harts) → Going s → remaining s many ≤ f
         → Through (after i (events_from i c n f j s) s)
-    unfolding events_from after
+    unfolding events_from after_by
     through_from zero j s going most = at_last j s going most (next_hart i c n j s) refl
     through_from (suc f) j s going most = through_if f j s going most (through_from f (suc j)) (next_hart i c n j s) refl
 
     at_first : (h : ℕ) → progress_of h (harts i []) ≡ record { slots = 0; inside = false }
-    unfolding harts after
+    unfolding harts_by after_by
     at_first h = at-empty (record { slots = 0; inside = false }) h
 
     first : Going (harts i [])
@@ -244,7 +247,7 @@ module _ (i : Image) (r : Runnable i) (n : ℕ) where
     }
 
     pub ends : Through (harts i (order_of i c n))
-    unfolding order_of harts after
+    unfolding order_of harts_by after_by
     ends = through_from (cycles_before i n many) 0 (harts i []) first (remaining_first (harts i []) many)
 
 -- ---- the laws

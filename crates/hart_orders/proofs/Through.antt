@@ -1,5 +1,5 @@
 -- Events of one hart, up to the end of the slot that it is in: what the definition has then, at each place.
-use Rattle.std.proofs.Common.{◌≡◌, ◌≢◌, ◌∙◌, ℕ, zero, suc, ◌+◌, ◌<◌, ◌≤◌, Bool, true, false, List, [], ◌∷◌, ◌++◌, replicate, ltb, ltb-true, inl, inr, refl, sym, ap, ap₂, subst, arith}
+use Rattle.std.proofs.Common.{None, ◌≡◌, ◌≢◌, ◌∙◌, ℕ, zero, suc, ◌+◌, ◌<◌, ◌≤◌, Bool, true, false, List, [], ◌∷◌, ◌++◌, replicate, ltb, ltb-true, inl, inr, refl, sym, ap, ap₂, subst, arith}
 use Rattle.std.specs.Prelude.{if◌then◌else◌}
 use Rattle.std.proofs.lemmas.Bool.{cases_lt, ltb-false}
 use Rattle.tp_base.specs.Table.{at-put_other}
@@ -10,35 +10,39 @@ use Rattle.image_check.specs.Image.{Image, own_of}
 use Rattle.image_check.specs.Laws.{Runnable}
 use Rattle.world_view.specs.Kernel.{no_dom}
 use Rattle.world_view.specs.Event.{Storage}
-use Rattle.world_view.specs.Machine.{World, Local, Setting, setting, step, stretch, dom_of, clock_of, part_of, with_part, with_hart}
+use Rattle.world_view.specs.Machine.{guarded, World, Local, Setting, setting, step, stretch, dom_of, clock_of, part_of, with_part, with_hart}
 use Rattle.world_view.specs.Relations.{HasFacts}
-use Rattle.world_view.specs.Harts.{Harts, Progress, progress_of, slots_of, domain_in, end_on, proceeds, begins, runs, goes_on, next, after, harts}
-use Rattle.world_view.specs.HartLaws.{LeftAlone}
+use Rattle.world_view.specs.Harts.{Harts, Progress, progress_of, slots_of, domain_in, end_on, proceeds, begins, runs, goes_on, next, after, harts, next_by, after_by, harts_by, settles}
+use Rattle.world_view.specs.HartLaws.{AreHartsOf, LeftAlone}
 use Rattle.world_view.proofs.steps.Fuel.{IsTimed, step_later, stretch_step, stretch_done}
 use Rattle.world_view.proofs.harts.OnHart.{separated_on}
-use Rattle.world_view.proofs.harts.Events.{IsHart, IsInside, ran-caches, ran-clock, step_own}
+use Rattle.world_view.proofs.harts.Events.{IsHart, IsInside, begun_world, begins_is, ran-caches, ran-clock, step_own}
+use Rattle.world_view.proofs.harts.Isolation.{running}
 use Rattle.world_view.proofs.harts.Runs.{Running, Next, next_so, progress-same}
 
 -- ---- after more events
 
 appended : (i : Image) (order more : List ℕ) (s : Harts)
     → after i (order ++ more) s ≡ after i more (after i order s)
-unfolding after
+unfolding after_by
 appended i [] more s = refl
 appended i (g ∷ order) more s = appended i order more (next i g s)
 
 pub harts_appended : (i : Image) (order more : List ℕ)
     → harts i (order ++ more) ≡ after i more (harts i order)
-unfolding harts
+unfolding harts_by
 harts_appended i order more = appended i order more _
 
 -- a switch ends no slot
-pub slots_begun : (i : Image) (h : ℕ) (s : Harts) → (progress_of h s).inside ≡ false
-    → slots_of h (next i h s) ≡ slots_of h s
-unfolding next begins
-slots_begun i h s outside =
-    ap (λ (b : Bool). slots_of h (if b then goes_on i h s else begins i h s)) outside
-    ∙ ap (λ (x : Progress). x.slots) (progress-same h s _ (slots_of h s) true)
+pub slots_begun : (i : Image) (r : Runnable i) (h : ℕ) → h < harts_in i.all.schedule → (order : List ℕ) → AreHartsOf i order
+    → (progress_of h (harts i order)).inside ≡ false → slots_of h (next i h (harts i order)) ≡ slots_of h (harts i order)
+unfolding next_by
+slots_begun i r h is order below outside =
+    let s = harts i order in
+    let time = subst (λ (b : Bool). IsHart i b h (slots_of h s) s.world) outside ((running i r order below).hart h is) in
+    ap (λ (b : Bool). slots_of h (if b then goes_on None i h s else begins None i h s)) outside
+    ∙ ap (slots_of h) (begins_is i r h is s time)
+    ∙ ap (λ (x : Progress). x.slots) (progress-same h s (begun_world i h s) (slots_of h s) true)
 
 abbrev made : Storage → Dom → Caches → ℕ → Local
 made storage d c n = record { dom = d; storage = storage; caches = c; clock = n }
@@ -101,32 +105,32 @@ module _ (i : Image) (r : Runnable i) (h : ℕ) where
       facts = (run.facts d ((separated_on i r h below).named k)).facts
 
       abbrev ran : World
-      ran = runs i h k s.world
+      ran = runs None i h k s.world
 
       part_ran : part_of h d ran ≡ step own end (part_of h d s.world)
-      unfolding runs with_part with_hart
+      unfolding runs with_part with_hart guarded
       part_ran =
           let x = step own end (part_of h d s.world) in
           ap₂ (made x.storage (dom_of ran d)) (ran-caches i r h below k s.world in_it facts) (ran-clock i r h below k s.world in_it facts)
           ∙ ap (λ (y : Dom). made x.storage y x.caches x.clock) (step_own i r h below k s.world in_it facts)
 
       doms_ran : (e : ℕ) → e ≢ d → dom_of ran e ≡ dom_of s.world e
-      unfolding runs with_part with_hart
+      unfolding runs with_part with_hart guarded
       doms_ran e other = at-put_other no_dom s.world.doms d e _ other
 
       used_ran : ran.used ≡ s.world.used
-      unfolding runs with_part with_hart
+      unfolding runs with_part with_hart guarded
       used_ran = refl
 
       abbrev went : Bool → Harts
       went b = if b then proceeds h s ran k true else proceeds h s ran (suc k) false
 
       next_is : (b : Bool) → ltb (clock_of h ran) end ≡ b → next i h s ≡ went b
-      unfolding next goes_on
+      unfolding next_by goes_on settles guarded
       next_is b test =
-          ap (λ (x : Progress). if x.inside then goes_on i h s else begins i h s) far
+          ap (λ (x : Progress). if x.inside then goes_on None i h s else begins None i h s) far
           ∙ ap
-          (λ (x : Progress). let w = runs i h x.slots s.world in
+          (λ (x : Progress). let w = runs None i h x.slots s.world in
           if ltb (clock_of h w) (end_on i h x.slots) then proceeds h s w x.slots true else proceeds h s w (suc x.slots) false) far
           ∙ ap went test
 
@@ -165,7 +169,7 @@ module _ (i : Image) (r : Runnable i) (h : ℕ) where
     none_left : (s : Harts) → Running i r s → progress_of h s ≡ record { slots = suc k; inside = false }
         → end ≤ clock_of h s.world
         → Whole s
-    unfolding after
+    unfolding after_by
     none_left s run ended past = record {
       events = 0;
       ran = record {
@@ -181,7 +185,7 @@ module _ (i : Image) (r : Runnable i) (h : ℕ) where
 
     one_more : (s : Harts) (run : Running i r s) → progress_of h s ≡ record { slots = k; inside = true }
         → Whole (next i h s) → Whole s
-    unfolding after
+    unfolding after_by
     one_more s run far rest =
         let one = one_event s run far in
         record {

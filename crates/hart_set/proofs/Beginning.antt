@@ -28,12 +28,12 @@ use Rattle.world_view.specs.Kernel.{layout}
 use Rattle.world_view.specs.Cost.{hierarchy}
 use Rattle.world_view.specs.Machine.{World, caches_of, clock_of, guarded, clone_of, switch_work, switch_on, with_hart, cycles_on, noted}
 use Rattle.world_view.specs.Relations.{IsDomain, InTime}
-use Rattle.world_view.specs.Harts.{Harts, image_on, progress_of, slots_of, domain_in, end_on, start_on, proceeds, goes_on, begins, next}
+use Rattle.world_view.specs.Harts.{Harts, image_on, progress_of, slots_of, domain_in, end_on, start_on, proceeds, goes_on, begins, next, next_by}
 use Rattle.world_view.proofs.opening.Separate.{separated}
 use Rattle.world_view.proofs.opening.OpeningFacts.{kernel_of}
 use Rattle.world_view.proofs.runs.SwitchParts.{switch_is, caches-with, clock-with}
 use Rattle.world_view.proofs.harts.OnHart.{separated_on}
-use Rattle.world_view.proofs.harts.Events.{IsHart}
+use Rattle.world_view.proofs.harts.Events.{IsHart, begins_is}
 use Rattle.world_view.proofs.harts.Runs.{Running, Next, next_so, progress-same}
 use Rattle.domain_step.specs.Standing.{MachineStands}
 use Rattle.domain_step.specs.Usage.{IsUsed}
@@ -229,8 +229,8 @@ module _ (i : Image) (r : Runnable i) (s : Harts) (t : State) (run : Running i r
       }
 
       next_is : next i h s ≡ later
-      unfolding next begins
-      next_is = ap (λ (c : Bool). if c then goes_on i h s else begins i h s) outside
+      unfolding next_by
+      next_is = ap (λ (c : Bool). if c then goes_on None i h s else begins None i h s) outside ∙ begins_is i r h below s time
 
       pub stands_begun : StandsFor i (next i h s) t'
       stands_begun =

@@ -22,7 +22,7 @@ use Rattle.world_view.specs.Kernel.{no_dom}
 use Rattle.world_view.specs.Machine.{World, setting, dom_of, opening, with_hart}
 use Rattle.world_view.specs.Opening.{all_placed}
 use Rattle.world_view.specs.Relations.{IsDomain}
-use Rattle.world_view.specs.Harts.{Progress, progress_of, domain_in, end_on, hart_of_domain, all_cold, harts, after}
+use Rattle.world_view.specs.Harts.{Progress, progress_of, domain_in, end_on, hart_of_domain, all_cold, harts, after_by, harts_by}
 use Rattle.world_view.proofs.opening.OpeningLaws.{opening_dom_is}
 use Rattle.world_view.proofs.opening.Separate.{separated}
 use Rattle.world_view.proofs.harts.Runs.{doms_cold, storage_cold, used_cold, all_cold_are}
@@ -58,11 +58,11 @@ module _ (i : Image) (r : Runnable i) (t : State) (is : IsLoaded i t) where
       (is.cold h x (slice_get_within t.harts.items h x got))
 
   at_first : (h : ℕ) → progress_of h (harts i []) ≡ record { slots = 0; inside = false }
-  unfolding harts after
+  unfolding harts_by after_by
   at_first h = at-empty (record { slots = 0; inside = false }) h
 
   hart_first : (h : ℕ) → AtHart t h (HartStands i (harts i []) t h)
-  unfolding harts after
+  unfolding harts_by after_by
   hart_first h x got =
       let below : h < many = omega (arith, slice_get_within t.harts.items h x got, is.all_harts) in
       let cold = cold_at h x got in
@@ -87,7 +87,7 @@ module _ (i : Image) (r : Runnable i) (t : State) (is : IsLoaded i t) where
 
   domain_first : (d : ℕ) (x : Domain) → slice_get t.domains.items d ≡ Some x
       → DomainStands (setting i.all.hardware (own_of i d) false) x (dom_of (harts i []).world d)
-  unfolding harts after opening with_hart
+  unfolding harts_by after_by opening with_hart
   domain_first d x got =
       let id : IsDomain i d = omega (arith, slice_get_within t.domains.items d x got, is.opened.all) in
       let opened = is.opened.each d x got in
@@ -95,7 +95,7 @@ module _ (i : Image) (r : Runnable i) (t : State) (is : IsLoaded i t) where
       record { dom = subst (Stands x) (sym dom) opened.stands; has = opened.has; layout = opened.layout; moments = opened.moments }
 
   pub stands_first : StandsFor i (harts i []) t
-  unfolding harts after
+  unfolding harts_by after_by
   stands_first = record {
     all_harts = is.all_harts;
     each_hart = hart_first;

@@ -179,14 +179,14 @@ module _ (i : Image) (t : State) (h : ℕ) (x : CodeHart) (c : Called i t h x) (
 
 -- ---- and then the slot, to its end
 
-pub through_begun : (i : Image) (t t' later : State) (h : ℕ) (x : CodeHart) → h < harts_in i.all.schedule
+pub through_begun : (i : Image) → Runnable i → (t t' later : State) (h : ℕ) (x : CodeHart) → h < harts_in i.all.schedule
     → slice_get t.harts.items h ≡ Some x → x.slot ≡ None
     → NextStands i h t t' → SlotEnds i h t' later → SlotEnds i h t later
-through_begun i t t' later h x below got between begins ends order of_harts stands =
+through_begun i r t t' later h x below got between begins ends order of_harts stands =
     let s = harts i order in
     let begun = order ++ h ∷ [] in
     let outside = in_none (progress_of h s).inside _ _ (sym between ∙ (stands.each_hart h x got).slot) in
-    let slots : slots_of h (harts i begun) ≡ slots_of h s = ap (slots_of h) (next_law i order h) ∙ slots_begun i h s outside in
+    let slots : slots_of h (harts i begun) ≡ slots_of h s = ap (slots_of h) (next_law i order h) ∙ slots_begun i r h below order of_harts outside in
     let rest = ends begun (All-push (λ (g : ℕ). g < harts_in i.all.schedule) order h of_harts below) (begins order of_harts stands) in
     let all : begun ++ replicate rest.events h ≡ order ++ replicate (suc rest.events) h =
     append_assoc order (h ∷ []) (replicate rest.events h) in

@@ -27,7 +27,7 @@ at_cycle_100 w c = with_hart 0 (record w { doms = empty }) c 100
 
 module _ (w : World) (c : Caches) where
   abbrev pub due : List Moment → List Moment → Option Owned
-  due red blue = first_due (beside red blue) (at_cycle_100 w c) 2
+  due red blue = first_due (beside red blue) 0 (at_cycle_100 w c) 2
 
   -- the earliest, whoever has it
   pub earliest_of_blue : due (moment 20 1 ∷ []) (moment 10 5 ∷ []) ≡ owned 1 10 5
@@ -57,12 +57,12 @@ abbrev pub own_step : Guards → Image → ℕ → ℕ → World → World
 own_step g i d end w = with_part 0 d w (step (setting_by g i d) end (part_of 0 d w))
 
 by_status : (g : Guards) (i : Image) (d end : ℕ) (w : World) (runs : Bool) (o : Option Owned) → o ≡ None
-    → delivered_or_step g i d end w (if runs then o else None) ≡ own_step g i d end w
+    → delivered_or_step g i 0 d end w (if runs then o else None) ≡ own_step g i d end w
 by_status g i d end w true o none = rw none refl
 by_status g i d end w false o none = refl
 
-pub else_its_own : (g : Guards) (i : Image) (d end : ℕ) (w : World) → first_due i w (length i.owns) ≡ None
-    → step_among g i d end w ≡ own_step g i d end w
+pub else_its_own : (g : Guards) (i : Image) (d end : ℕ) (w : World) → first_due i 0 w (length i.owns) ≡ None
+    → step_among g i 0 d end w ≡ own_step g i d end w
 unfolding step_among
 else_its_own g i d end w none =
-    by_status g i d end w (is_running (dom_of w d).status) (first_due i w (length i.owns)) none
+    by_status g i d end w (is_running (dom_of w d).status) (first_due i 0 w (length i.owns)) none

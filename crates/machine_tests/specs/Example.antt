@@ -436,22 +436,22 @@ least_line_before = refl
 
 -- a domain's moment is due whatever became of it
 pub owner_may_have_ended : (i : Image) (w : World)
-    → first_due i w 1 ≡ if_due (clock_of 0 w) 0 (next_of (interrupts_of (own_of i 0) (dom_of w 0)))
+    → first_due i 0 w 1 ≡ if_due (clock_of 0 w) 0 (next_of (interrupts_of (own_of i 0) (dom_of w 0)))
 unfolding first_due
 owner_may_have_ended i w = refl
 
 -- in the slot of one that has ended none comes
 pub none_where_nobody_runs : (g : Guards) (i : Image) (d end : ℕ) (w : World)
     → is_running (dom_of w d).status ≡ false
-    → step_among g i d end w ≡ with_part 0 d w (step (setting_by g i d) end (part_of 0 d w))
+    → step_among g i 0 d end w ≡ with_part 0 d w (step (setting_by g i d) end (part_of 0 d w))
 unfolding step_among
 none_where_nobody_runs g i d end w ended = rw ended refl
 
 -- while one runs that is idle, another's moment comes, too, and is charged by the clone of the one that runs
 pub comes_to_its_owner : (g : Guards) (i : Image) (d end : ℕ) (w : World) (x : Owned)
     → is_running (dom_of w d).status ≡ true
-    → first_due i w (length i.owns) ≡ Some x
-    → step_among g i d end w
+    → first_due i 0 w (length i.owns) ≡ Some x
+    → step_among g i 0 d end w
     ≡ with_part 0 x.owner w (delivered (setting_by g i d) x.moment.line (part_of 0 x.owner w))
 unfolding step_among
 comes_to_its_owner g i d end w x runs due = rw (runs, due) refl

@@ -1,11 +1,12 @@
 -- Several harts over one memory and one second level, in any order of their events.
-use Rattle.std.specs.Prelude.{◌≡◌, ℕ, zero, suc, ◌+◌, Bool, true, false, nat_lt, if◌then◌else◌, List, [], ◌∷◌}
+use Rattle.std.specs.Prelude.{◌≡◌, ℕ, zero, suc, ◌+◌, Bool, true, false, nat_lt, if◌then◌else◌, List, [], ◌∷◌, Option, None}
 use Rattle.tp_base.specs.Table.{Table, empty, at, put}
 use Rattle.image_check.specs.Public.{Public}
 use Rattle.image_check.specs.Own.{Own}
 use Rattle.image_check.specs.Image.{Image, own_of}
 use Rattle.sched_table.specs.Schedule.{entry_of_slot, switch_entry, start, slot_end, on_hart, place_on, harts_in, hart_for}
-use Rattle.world_view.specs.Machine.{Local, World, setting, step, clock_of, part_of, with_part, guarded, switch_on, cycles_on, noted, no_harts, with_cold}
+use Rattle.guards.specs.declared.Guard.{Guard}
+use Rattle.world_view.specs.Machine.{Local, World, Guards, guards_of, clock_of, ended_of, part_of, with_end, ends_by, switch_on, cycles_on, noted, event_if, no_harts, with_cold}
 use Rattle.world_view.specs.View.{View, view_in, view_alone}
 
 -- ---- a hart's own entries
@@ -60,39 +61,50 @@ unfoldable pub proceeds : ℕ → Harts → World → ℕ → Bool → Harts
 proceeds h s w slots inside =
     record { world = w; progress = put s.progress h (record { slots = slots; inside = inside }) }
 
--- ---- events
+-- ---- events, with all guards on or with one off
+
+-- a hart is in its slot k while its clock is below the slot's end; then the slot has ended
+unfoldable pub settles : ℕ → Harts → World → ℕ → ℕ → Harts
+settles h s w k end =
+    if nat_lt (clock_of h w) end then proceeds h s w k true else proceeds h s w (suc k) false
+
+-- when slot k of a hart ends: with pads the schedule says it
+abbrev pub end_by : Guards → Image → ℕ → ℕ → World → ℕ
+end_by g i h k w = if g.pad then end_on i h k else ended_of h w
+
+-- else it is known, and noted, as the slot begins
+abbrev pub with_end_by : Guards → Image → ℕ → ℕ → World → World
+with_end_by g i h k w = if g.pad then w else with_end h w (ends_by g (image_on i h) k (clock_of h w))
 
 -- the switch into a hart's next slot; it belongs to one of the image's entries
-unfoldable pub begins : Image → ℕ → Harts → Harts
-begins i h s =
+unfoldable pub begins : Option Guard → Image → ℕ → Harts → Harts
+begins off i h s =
     let own = image_on i h in
+    let g = guards_of off own in
     let k = slots_of h s in
     let place = place_on i.all.schedule h (switch_entry own.all.schedule k) in
-    proceeds h s
-    (noted place (cycles_on (guarded own) own h k s.world) (switch_on (guarded own) own h k s.world)) k
-    true
+    let w = with_end_by g i h k (noted place (cycles_on g own h k s.world) (switch_on g own h k s.world)) in
+    settles h s w k (end_by g i h k w)
 
 -- one event of the domain whose slot it is
-unfoldable pub runs : Image → ℕ → ℕ → World → World
-runs i h k w =
-    let d = domain_in i h k in
-    with_part h d w (step (setting i.all.hardware (own_of i d) false) (end_on i h k) (part_of h d w))
+unfoldable pub runs : Option Guard → Image → ℕ → ℕ → World → World
+runs off i h k w =
+    let g = guards_of off i in
+    event_if g.irq g i h (domain_in i h k) (end_by g i h k w) w
 
--- after it the slot has ended, where the hart's clock has reached its end
-unfoldable pub goes_on : Image → ℕ → Harts → Harts
-goes_on i h s =
+unfoldable pub goes_on : Option Guard → Image → ℕ → Harts → Harts
+goes_on off i h s =
     let k = slots_of h s in
-    let w = runs i h k s.world in
-    if nat_lt (clock_of h w) (end_on i h k) then proceeds h s w k true else proceeds h s w (suc k) false
+    settles h s (runs off i h k s.world) k (end_by (guards_of off i) i h k s.world)
 
 -- a hart's next event
-unfoldable pub next : Image → ℕ → Harts → Harts
-next i h s = if (progress_of h s).inside then goes_on i h s else begins i h s
+unfoldable pub next_by : Option Guard → Image → ℕ → Harts → Harts
+next_by off i h s = if (progress_of h s).inside then goes_on off i h s else begins off i h s
 
 -- the next event of each of these harts, one after the other
-unfoldable pub after : Image → List ℕ → Harts → Harts
-after i [] s = s
-after i (h ∷ hs) s = after i hs (next i h s)
+unfoldable pub after_by : Option Guard → Image → List ℕ → Harts → Harts
+after_by off i [] s = s
+after_by off i (h ∷ hs) s = after_by off i hs (next_by off i h s)
 
 -- so many harts, each with nothing in its caches
 unfoldable pub all_cold : Image → ℕ → World
@@ -100,8 +112,19 @@ all_cold i zero = no_harts i
 all_cold i (suc h) = with_cold i h (all_cold i h)
 
 -- the image's harts after events in this order
-unfoldable pub harts : Image → List ℕ → Harts
-harts i order = after i order (record { world = all_cold i (harts_in i.all.schedule); progress = empty })
+unfoldable pub harts_by : Option Guard → Image → List ℕ → Harts
+harts_by off i order =
+    after_by off i order (record { world = all_cold i (harts_in i.all.schedule); progress = empty })
+
+-- with all guards on: the machine of which isolation is proved
+abbrev pub next : Image → ℕ → Harts → Harts
+next = next_by None
+
+abbrev pub after : Image → List ℕ → Harts → Harts
+after = after_by None
+
+abbrev pub harts : Image → List ℕ → Harts
+harts = harts_by None
 
 -- ---- in a slot, and between two
 

@@ -20,10 +20,11 @@ use Rattle.world_view.specs.Cost.{hierarchy, region}
 use Rattle.call_table.specs.Laws.{found_at}
 use Rattle.call_table.specs.Rights.{MayReach}
 use Rattle.world_view.specs.Kernel.{estate, layout, frames_for_good}
-use Rattle.world_view.specs.Machine.{caches_of, clock_of, hart_of, setting, Local, World, step, dom_of, part_of, with_part, clone_of, leave_part, enter_part, prefetch_part, flush_part, switch_work, whole, alone_enter, alone_out}
+use Rattle.guards.specs.declared.Guard.{Guard}
+use Rattle.world_view.specs.Machine.{caches_of, clock_of, hart_of, setting, Local, World, step, dom_of, part_of, with_part, clone_of, leave_part, enter_part, prefetch_part, flush_part, switch_work, whole, guards_of, whole_by, alone_enter, alone_out}
 use Rattle.image_check.specs.Laws.{Runnable}
 use Rattle.world_view.specs.Relations.{IsDomain, IsOwnFrame, Agree, SameSets, SamePart, Resident, KeepsSharedAlone, OwnDirty, KernelIsClean, IsKernel, AreParties, IsForGood, HasFacts, HasRights, ReachesOwn, Beside, Within, Apiece, Untouched, InTime}
-use Rattle.world_view.specs.Harts.{Harts, IsOnOneHart, IsInSlot, IsOutside, public_on, image_on, domain_in, domain_on, owner_on, start_on, slot_end_on, hart_of_domain, slots_of, switches_of, next, harts, view_on}
+use Rattle.world_view.specs.Harts.{Harts, IsOnOneHart, IsInSlot, IsOutside, public_on, image_on, domain_in, domain_on, owner_on, start_on, slot_end_on, hart_of_domain, slots_of, switches_of, next, harts, harts_by, view_on}
 use Rattle.world_view.specs.HartLaws.{AreHartsOf, IsBetween}
 
 -- ---- isolation
@@ -49,11 +50,13 @@ pub record SameWorld (w v : World) : Type 0 where
   pub clock : clock_of 0 w ≡ clock_of 0 v
   pub used : w.used ≡ v.used
 
--- where an image has one hart, the machine that goes from slot to slot is the one that goes from event to event
+-- where an image has one hart, the machine that goes from slot to slot is the one that goes from event to event, with all
+-- guards on and with any one off
 abbrev pub WholeLaw : Type 0
-WholeLaw = (i : Image) (order : List ℕ) → Runnable i → IsOnOneHart i → AreHartsOf i order →
-    let s = harts i order in
-    IsOutside 0 s → SameWorld (whole i (slots_of 0 s)) s.world
+WholeLaw =
+    (off : Option Guard) (i : Image) (order : List ℕ) → Runnable i → IsOnOneHart i → AreHartsOf i order →
+    let s = harts_by off i order in
+    IsOutside 0 s → SameWorld (whole_by (guards_of off i) i (slots_of 0 s)) s.world
 
 -- ---- at each moment
 

@@ -286,6 +286,10 @@ switch_by g i k w = noted (switch_entry i.all.schedule k) (cycles_on g i 0 k w) 
 unfoldable pub own_slot : Guards → Image → ℕ → ℕ → World → World
 own_slot g i d end w = with_part 0 d w (stretch (setting_by g i d) end (part_of 0 d w))
 
+-- the next step of domain d on a hart, in a slot up to this end
+abbrev pub own_step : Guards → Image → ℕ → ℕ → ℕ → World → World
+own_step g i h d end w = with_part h d w (step (setting_by g i d) end (part_of h d w))
+
 -- ---- where moments of all domains come
 
 -- a moment, and whose it is
@@ -307,31 +311,38 @@ first_of None y = y
 first_of (Some x) None = Some x
 first_of (Some x) (Some y) = if comes_first y.moment x.moment then Some y else Some x
 
--- the first moment that is due of the domains below this number
-unfoldable pub first_due : Image → World → ℕ → Option Owned
-first_due i w zero = None
-first_due i w (suc d) =
-    first_of (first_due i w d) (if_due (clock_of 0 w) d (next_of (interrupts_of (own_of i d) (dom_of w d))))
+-- the first moment that is due by a hart's clock, of the domains below this number
+unfoldable pub first_due : Image → ℕ → World → ℕ → Option Owned
+first_due i h w zero = None
+first_due i h w (suc d) =
+    first_of (first_due i h w d) (if_due (clock_of h w) d (next_of (interrupts_of (own_of i d) (dom_of w d))))
 
 -- it comes to its owner; the kernel clone of the domain that runs is charged
-abbrev pub delivered_or_step : Guards → Image → ℕ → ℕ → World → Option Owned → World
-delivered_or_step g i d end w None = with_part 0 d w (step (setting_by g i d) end (part_of 0 d w))
-delivered_or_step g i d end w (Some x) =
-    with_part 0 x.owner w (delivered (setting_by g i d) x.moment.line (part_of 0 x.owner w))
+abbrev pub delivered_or_step : Guards → Image → ℕ → ℕ → ℕ → World → Option Owned → World
+delivered_or_step g i h d end w None = own_step g i h d end w
+delivered_or_step g i h d end w (Some x) =
+    with_part h x.owner w (delivered (setting_by g i d) x.moment.line (part_of h x.owner w))
 
 -- one event in a slot of domain d: while it runs, the first moment that is due of any domain comes first
-unfoldable pub step_among : Guards → Image → ℕ → ℕ → World → World
-step_among g i d end w =
-    delivered_or_step g i d end w
-    (if is_running (dom_of w d).status then first_due i w (length i.owns) else None)
+unfoldable pub step_among : Guards → Image → ℕ → ℕ → ℕ → World → World
+step_among g i h d end w =
+    delivered_or_step g i h d end w
+    (if is_running (dom_of w d).status then first_due i h w (length i.owns) else None)
 
-unfoldable pub steps_among : Guards → Image → ℕ → ℕ → ℕ → World → World
-steps_among g i d end zero w = w
-steps_among g i d end (suc n) w =
-    elim (nat_lt (clock_of 0 w) end) [ true ↦ steps_among g i d end n (step_among g i d end w) | false ↦ w ]
+unfoldable pub steps_among : Guards → Image → ℕ → ℕ → ℕ → ℕ → World → World
+steps_among g i h d end zero w = w
+steps_among g i h d end (suc n) w =
+    elim (nat_lt (clock_of h w) end) [ true ↦ steps_among g i h d end n (step_among g i h d end w) | false ↦ w ]
 
 abbrev pub open_slot : Guards → Image → ℕ → ℕ → World → World
-open_slot g i d end w = steps_among g i d end (end - clock_of 0 w) w
+open_slot g i d end w = steps_among g i 0 d end (end - clock_of 0 w) w
+
+-- ---- one event
+
+-- in a slot of domain d: where its own moments alone come, its next step
+abbrev pub event_if : Bool → Guards → Image → ℕ → ℕ → ℕ → World → World
+event_if true = own_step
+event_if false = step_among
 
 -- ---- slots
 

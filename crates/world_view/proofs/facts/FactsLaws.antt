@@ -53,11 +53,11 @@ more n None h = tt
 more n (Some x) h = omega (arith, h)
 
 -- the first moment that is due is of one of these domains
-pub due_owner : (i : Image) (w : World) (n : ℕ) → OwnerBelow n (first_due i w n)
+pub due_owner : (i : Image) (w : World) (n : ℕ) → OwnerBelow n (first_due i 0 w n)
 unfolding first_due
 due_owner i w zero = tt
 due_owner i w (suc d) =
-    first_below (suc d) (first_due i w d) _ (more d (first_due i w d) (due_owner i w d))
+    first_below (suc d) (first_due i 0 w d) _ (more d (first_due i 0 w d) (due_owner i w d))
     (due_below (clock_of 0 w) d (next_of (interrupts_of (own_of i d) (dom_of w d))))
 
 or_none : (b : Bool) (n : ℕ) (o : Option Owned) → OwnerBelow n o → OwnerBelow n (if b then o else None)
@@ -138,26 +138,26 @@ module _ (i : Image) (r : Separated i) where
 
     pub among_keeps_if : (d end : ℕ) (w : World) (o : Option Owned) → IsDomain i d
         → OwnerBelow (length i.owns) o → AllBoth w
-        → AllBoth (delivered_or_step g i d end w o)
+        → AllBoth (delivered_or_step g i 0 d end w o)
     among_keeps_if d end w None is below before = step_keeps_all 0 d end w is before
     among_keeps_if d end w (Some x) is below before = delivery_keeps x.owner d x.moment.line w below before
 
-    pub among_keeps : (d end : ℕ) (w : World) → IsDomain i d → AllBoth w → AllBoth (step_among g i d end w)
+    pub among_keeps : (d end : ℕ) (w : World) → IsDomain i d → AllBoth w → AllBoth (step_among g i 0 d end w)
     unfolding step_among
     among_keeps d end w is before =
         among_keeps_if d end w _ is
-        (or_none (is_running (dom_of w d).status) (length i.owns) (first_due i w (length i.owns)) (due_owner i w (length i.owns)))
+        (or_none (is_running (dom_of w d).status) (length i.owns) (first_due i 0 w (length i.owns)) (due_owner i w (length i.owns)))
         before
 
     open_if : (b : Bool) (x y : World) → AllBoth x → AllBoth y → AllBoth (elim b [ true ↦ x | false ↦ y ])
     open_if true x y h k = h
     open_if false x y h k = k
 
-    open_keeps : (d end n : ℕ) (w : World) → IsDomain i d → AllBoth w → AllBoth (steps_among g i d end n w)
+    open_keeps : (d end n : ℕ) (w : World) → IsDomain i d → AllBoth w → AllBoth (steps_among g i 0 d end n w)
     unfolding steps_among
     open_keeps d end zero w is before = before
     open_keeps d end (suc n) w is before =
-        open_if (ltb (clock_of 0 w) end) _ w (open_keeps d end n (step_among g i d end w) is (among_keeps d end w is before)) before
+        open_if (ltb (clock_of 0 w) end) _ w (open_keeps d end n (step_among g i 0 d end w) is (among_keeps d end w is before)) before
 
     slot_keeps : (b : Bool) (d end : ℕ) (w : World) → IsDomain i d → AllBoth w
         → AllBoth (slot_if b g i d end w)

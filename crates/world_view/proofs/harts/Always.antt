@@ -1,5 +1,5 @@
 -- What holds after every order of the harts' events, by induction on the order; and what each event does.
-use Rattle.std.proofs.Common.{◌≡◌, ◌≢◌, ◌∙◌, ℕ, zero, suc, ◌+◌, ◌<◌, Bool, true, false, nat_lt, List, [], ◌∷◌, ◌⊎◌, inl, inr, ap, ap₂, sym, subst, refl, arith}
+use Rattle.std.proofs.Common.{None, ◌≡◌, ◌≢◌, ◌∙◌, ℕ, zero, suc, ◌+◌, ◌<◌, Bool, true, false, nat_lt, List, [], ◌∷◌, ◌⊎◌, inl, inr, ap, ap₂, sym, subst, refl, arith}
 use Rattle.std.specs.Prelude.{if◌then◌else◌}
 use Rattle.std.specs.List.{All}
 use Rattle.std.proofs.lemmas.Bool.{cases_eq}
@@ -20,10 +20,10 @@ use Rattle.call_table.specs.Domain.{Dom}
 use Rattle.world_view.specs.Cost.{hierarchy}
 use Rattle.world_view.specs.Kernel.{opening_dom, no_dom}
 use Rattle.world_view.specs.Event.{event}
-use Rattle.world_view.specs.Machine.{Local, World, caches_of, clock_of, dom_of, part_of, with_part, with_hart, setting, step, switch_on, opening}
+use Rattle.world_view.specs.Machine.{guarded, Local, World, caches_of, clock_of, dom_of, part_of, with_part, with_hart, setting, step, switch_on, opening}
 use Rattle.world_view.specs.EventLaws.{EndsBy}
 use Rattle.world_view.specs.Relations.{IsDomain, HasFacts, Resident, KernelIsClean, Untouched, InTime}
-use Rattle.world_view.specs.Harts.{Harts, Progress, IsInSlot, IsOutside, image_on, end_on, domain_on, owner_on, local_on, slot_end_on, progress_of, slots_of, switches_of, proceeds, begins, runs, goes_on, next, after, all_cold, harts}
+use Rattle.world_view.specs.Harts.{Harts, Progress, IsInSlot, IsOutside, image_on, end_on, domain_on, owner_on, local_on, slot_end_on, progress_of, slots_of, switches_of, proceeds, begins, runs, goes_on, next, after, all_cold, harts, next_by, after_by, harts_by, settles}
 use Rattle.world_view.specs.HartLaws.{AreHartsOf}
 use Rattle.world_view.proofs.opening.Separate.{separated}
 use Rattle.world_view.proofs.opening.OpeningLaws.{opening_dom_is}
@@ -33,7 +33,7 @@ use Rattle.world_view.proofs.runs.SwitchParts.{caches-with, clock-with}
 use Rattle.world_view.proofs.harts.OnHart.{separated_on}
 use Rattle.world_view.proofs.harts.Events.{IsHart, IsInside, step_leaves}
 use Rattle.world_view.proofs.harts.Runs.{Running, doms_cold, all_cold_are, home, next_so}
-use Rattle.world_view.proofs.harts.Clocks.{begun_world}
+use Rattle.world_view.proofs.harts.Events.{begun_world}
 use Rattle.world_view.proofs.harts.Isolation.{at_first, running}
 
 -- what each event keeps, every order keeps
@@ -41,14 +41,14 @@ module _ (i : Image) (r : Runnable i) (P : Harts → Type 0)
     (goes : (h : ℕ) → h < harts_in i.all.schedule → (s : Harts) → Running i r s → P s → P (next i h s)) where
   from : (order : List ℕ) (s : Harts) → All (λ h. h < harts_in i.all.schedule) order → Running i r s → P s
       → P (after i order s)
-  unfolding after
+  unfolding after_by
   from [] s below was holds = holds
   from (h ∷ hs) s below was holds =
       let one = All-head (λ (x : ℕ). x < harts_in i.all.schedule) h hs below in
       from hs (next i h s) (All-tail (λ (x : ℕ). x < harts_in i.all.schedule) h hs below) (next_so i r h one s was).running (goes h one s was holds)
 
   pub always : P (harts i []) → (order : List ℕ) → AreHartsOf i order → P (harts i order)
-  unfolding harts after
+  unfolding harts_by after_by
   always first order below = from order (harts i []) below (running i r [] (λ k d l. absurd (omega (arith, l)))) first
 
 -- ---- what an event is
@@ -71,25 +71,28 @@ module _ (i : Image) (h : ℕ) (s : Harts) where
   goes_world false k w = refl
 
   -- in a slot one of its events
-  pub next_in : IsInSlot h s → (next i h s).world ≡ runs i h (slots_of h s) s.world
-  unfolding next goes_on
+  pub next_in : IsInSlot h s → (next i h s).world ≡ runs None i h (slots_of h s) s.world
+  unfolding next_by goes_on settles guarded
   next_in within =
       let k = slots_of h s in
-      let w = runs i h k s.world in
-      subst (λ (b : Bool). (if b then goes_on i h s else begins i h s).world ≡ w) (sym within)
+      let w = runs None i h k s.world in
+      subst (λ (b : Bool). (if b then goes_on None i h s else begins None i h s).world ≡ w) (sym within)
       (goes_world (nat_lt (clock_of h w) (end_on i h k)) k w)
 
   -- else the switch into the next one
   pub next_out : IsOutside h s → (next i h s).world ≡ begun_world i h s
-  unfolding next begins proceeds
+  unfolding next_by begins proceeds settles guarded
   next_out outside =
-      subst (λ (b : Bool). (if b then goes_on i h s else begins i h s).world ≡ begun_world i h s) (sym outside) refl
+      let k = slots_of h s in
+      let w = begun_world i h s in
+      subst (λ (b : Bool). (if b then goes_on None i h s else begins None i h s).world ≡ w) (sym outside)
+      (goes_world (nat_lt (clock_of h w) (end_on i h k)) k w)
 
   -- the next step of the domain whose slot it is
   pub slot_step : IsInSlot h s
       → part_of h (domain_on i h s) (next i h s).world
       ≡ step (setting i.all.hardware (owner_on i h s) false) (slot_end_on i h s) (local_on i h s)
-  unfolding runs
+  unfolding runs guarded
   slot_step within =
       ap (part_of h (domain_on i h s)) (next_in within) ∙ part-with h (domain_on i h s) s.world _
 
@@ -209,7 +212,7 @@ cold_l2 i (suc n) = refl
 
 -- no set of the second level keeps a line
 pub empty : EmptyLaw
-unfolding harts after empty_l2 cold
+unfolding harts_by after_by empty_l2 cold
 empty i s way =
     ap (λ (l2 : Sets). kept_at (hierarchy i.all.hardware) l2 s way) (cold_l2 i (harts_in i.all.schedule))
     ∙ empty_law (hierarchy i.all.hardware) s way
@@ -222,7 +225,7 @@ module _ (i : Image) (r : Runnable i) where
       → ((o : Own) (end : ℕ) (a : Local) → Q o a.dom → Q o (step (setting i.all.hardware o false) end a).dom)
       → (order : List ℕ) → AreHartsOf i order → (d : ℕ) → IsDomain i d
       → Q (own_of i d) (dom_of (harts i order).world d)
-  unfolding harts after opening with_hart
+  unfolding harts_by after_by opening with_hart
   each_domain Q opens moves order below =
       always i r (λ (s : Harts). (d : ℕ) → IsDomain i d → Q (own_of i d) (dom_of s.world d))
       (λ h is s was holds. each_goes i r h is s was Q moves holds)
@@ -232,7 +235,7 @@ module _ (i : Image) (r : Runnable i) where
       order below
 
   first_sets : KernelsSets i.all.hardware (caches_of 0 (harts i []).world)
-  unfolding harts after
+  unfolding harts_by after_by
   first_sets =
       let some = home i r 0 in
       cold_sets i.all.hardware (caches_of 0 (harts i []).world)

@@ -1,5 +1,5 @@
 -- When a hart's slots begin, and what an event of it adds to its clock and to its slots.
-use Rattle.std.proofs.Common.{◌≡◌, ◌≢◌, ℕ, Bool, true, false, suc, ◌+◌, ◌<◌, ◌≤◌, ltb, ap, sym, refl, subst, arith}
+use Rattle.std.proofs.Common.{None, ◌≡◌, ◌≢◌, ℕ, Bool, true, false, suc, ◌+◌, ◌<◌, ◌≤◌, ltb, ap, ◌∙◌, sym, refl, subst, arith}
 use Rattle.std.specs.Prelude.{if◌then◌else◌}
 use Rattle.tp_base.specs.Table.{at-put_other}
 use Rattle.pad_bound.specs.Bound.{worst_leave, bound_of}
@@ -9,10 +9,10 @@ use Rattle.sched_table.specs.Schedule.{switch_entry, place_on, harts_in}
 use Rattle.sched_table.proofs.Starts.{pad_law}
 use Rattle.world_view.specs.Machine.{World, no_hart, hart_of, clock_of, with_part, with_hart, guarded, switch_on, cycles_on, noted}
 use Rattle.world_view.specs.Relations.{InTime}
-use Rattle.world_view.specs.Harts.{Harts, Progress, image_on, domain_in, start_on, end_on, progress_of, slots_of, proceeds, begins, runs, goes_on, next, harts}
+use Rattle.world_view.specs.Harts.{Harts, Progress, image_on, domain_in, start_on, end_on, progress_of, slots_of, proceeds, begins, runs, goes_on, next, harts, next_by, settles}
 use Rattle.world_view.specs.HartLaws.{IsBetween, HartBetweenLaw, HartBegunLaw, HartStartLaw, HartRiseLaw, OneMoreAtMost, HartSlotsLaw, HartStays, HartStaysLaw}
 use Rattle.world_view.proofs.harts.OnHart.{separated_on, padded_on}
-use Rattle.world_view.proofs.harts.Events.{IsHart, begins_on_start, later, ran-clock}
+use Rattle.world_view.proofs.harts.Events.{IsHart, begun_world, begins_on_start, begins_is, later, ran-clock}
 use Rattle.world_view.proofs.harts.Runs.{Running, progress-same, progress-other}
 use Rattle.world_view.proofs.harts.Isolation.{running}
 
@@ -42,17 +42,18 @@ module _ (i : Image) (r : Runnable i) (h : ℕ) (is : h < harts_in i.all.schedul
     begun : (progress_of h s).inside ≡ true → start_on i h k ≤ clock_of h s.world
     begun t = (its true t).begun
 
-    begins_at : (progress_of h s).inside ≡ false → clock_of h (begins i h s).world ≡ start_on i h k
-    unfolding begins proceeds
-    begins_at t = begins_on_start i r h is k s.world (its false t)
+    begins_at : (progress_of h s).inside ≡ false → clock_of h (begins None i h s).world ≡ start_on i h k
+    unfolding proceeds
+    begins_at t =
+        ap (λ (x : Harts). clock_of h x.world) (begins_is i r h is s (its false t)) ∙ begins_on_start i r h is k s.world (its false t)
 
     starts : (progress_of h s).inside ≡ false → clock_of h (next i h s).world ≡ start_on i h k
-    unfolding next
-    starts t = subst (λ (b : Bool). clock_of h (if b then goes_on i h s else begins i h s).world ≡ start_on i h k) (sym t) (begins_at t)
+    unfolding next_by
+    starts t = subst (λ (b : Bool). clock_of h (if b then goes_on None i h s else begins None i h s).world ≡ start_on i h k) (sym t) (begins_at t)
 
     -- the event of its slot
     abbrev ran : World
-    ran = runs i h k s.world
+    ran = runs None i h k s.world
 
     ran_world : (b : Bool)
         → (if b then proceeds h s ran k true else proceeds h s ran (suc k) false).world ≡ ran
@@ -60,8 +61,8 @@ module _ (i : Image) (r : Runnable i) (h : ℕ) (is : h < harts_in i.all.schedul
     ran_world true = refl
     ran_world false = refl
 
-    goes_later : (progress_of h s).inside ≡ true → clock_of h s.world < clock_of h (goes_on i h s).world
-    unfolding goes_on
+    goes_later : (progress_of h s).inside ≡ true → clock_of h s.world < clock_of h (goes_on None i h s).world
+    unfolding goes_on settles guarded
     goes_later t =
         let facts = (was.facts (domain_in i h k) ((separated_on i r h is).named k)).facts in
         let past = later i r h is k s.world (its true t) facts in
@@ -69,16 +70,16 @@ module _ (i : Image) (r : Runnable i) (h : ℕ) (is : h < harts_in i.all.schedul
         let same = ap (λ (w : World). clock_of h w) (ran_world (ltb (clock_of h ran) (end_on i h k))) in
         omega (arith, past, now, same)
 
-    begins_later : (progress_of h s).inside ≡ false → clock_of h s.world < clock_of h (begins i h s).world
+    begins_later : (progress_of h s).inside ≡ false → clock_of h s.world < clock_of h (begins None i h s).world
     begins_later t = let before = between t in let at = begins_at t in omega (arith, before, at)
 
     rises_if : (b : Bool) → (progress_of h s).inside ≡ b
-        → clock_of h s.world < clock_of h (if b then goes_on i h s else begins i h s).world
+        → clock_of h s.world < clock_of h (if b then goes_on None i h s else begins None i h s).world
     rises_if true t = goes_later t
     rises_if false t = begins_later t
 
     rises : clock_of h s.world < clock_of h (next i h s).world
-    unfolding next
+    unfolding next_by
     rises = rises_if (progress_of h s).inside refl
 
 pub hart_between : HartBetweenLaw
@@ -121,41 +122,36 @@ module _ (h : ℕ) (s : Harts) (w : World) where
     stays_if false = stayed (suc slots) false
 
 module _ (i : Image) (h : ℕ) (s : Harts) where
-  -- after its switch
-  abbrev pub begun_world : World
-  begun_world =
-      let on = image_on i h in
-      let k = slots_of h s in
-      noted (place_on i.all.schedule h (switch_entry on.all.schedule k))
-      (cycles_on (guarded on) on h k s.world) (switch_on (guarded on) on h k s.world)
-
-  slots_next : (b : Bool) → OneMoreAtMost h (if b then goes_on i h s else begins i h s) s
-  unfolding goes_on begins
+  slots_next : (b : Bool) → OneMoreAtMost h (if b then goes_on None i h s else begins None i h s) s
+  unfolding goes_on begins settles guarded
   slots_next true =
       let k = slots_of h s in
-      goes_if h s (runs i h k s.world) (ltb (clock_of h (runs i h k s.world)) (end_on i h k))
-  slots_next false = went_on h s begun_world (slots_of h s) true (omega arith) (omega arith)
+      goes_if h s (runs None i h k s.world) (ltb (clock_of h (runs None i h k s.world)) (end_on i h k))
+  slots_next false =
+      goes_if h s (begun_world i h s) (ltb (clock_of h (begun_world i h s)) (end_on i h (slots_of h s)))
 
-  ran_apart : (g : ℕ) → g ≢ h → hart_of g (runs i h (slots_of h s) s.world) ≡ hart_of g s.world
-  unfolding runs with_part with_hart
+  ran_apart : (g : ℕ) → g ≢ h → hart_of g (runs None i h (slots_of h s) s.world) ≡ hart_of g s.world
+  unfolding runs with_part with_hart guarded
   ran_apart g other = at-put_other no_hart s.world.harts h g _ other
 
-  switch_apart : (g : ℕ) → g ≢ h → hart_of g begun_world ≡ hart_of g s.world
+  switch_apart : (g : ℕ) → g ≢ h → hart_of g (begun_world i h s) ≡ hart_of g s.world
   unfolding switch_on with_hart
   switch_apart g other = at-put_other no_hart s.world.harts h g _ other
 
-  stays_next : (g : ℕ) → g ≢ h → (b : Bool) → HartStays g (if b then goes_on i h s else begins i h s) s
-  unfolding goes_on begins
+  stays_next : (g : ℕ) → g ≢ h → (b : Bool) → HartStays g (if b then goes_on None i h s else begins None i h s) s
+  unfolding goes_on begins settles guarded
   stays_next g other true =
       let k = slots_of h s in
-      let w = runs i h k s.world in
+      let w = runs None i h k s.world in
       stays_if h s w g other (ran_apart g other) (ltb (clock_of h w) (end_on i h k))
-  stays_next g other false = stayed h s begun_world g other (switch_apart g other) (slots_of h s) true
+  stays_next g other false =
+      let w = begun_world i h s in
+      stays_if h s w g other (switch_apart g other) (ltb (clock_of h w) (end_on i h (slots_of h s)))
 
 pub hart_slots : HartSlotsLaw
-unfolding next
+unfolding next_by
 hart_slots i h s = slots_next i h s (progress_of h s).inside
 
 pub hart_stays : HartStaysLaw
-unfolding next
+unfolding next_by
 hart_stays i g h s other = stays_next i h s g other (progress_of h s).inside

@@ -1,5 +1,6 @@
 -- What an event of one hart does to it, to the others, and to a domain of another.
-use Rattle.std.proofs.Common.{◌≡◌, ◌≢◌, ℕ, zero, suc, ◌+◌, ◌<◌, ◌≤◌, Bool, true, false, Some, sym, refl, subst, arith}
+use Rattle.std.proofs.Common.{None, ap, lt-ltb, ◌≡◌, ◌≢◌, ℕ, zero, suc, ◌+◌, ◌<◌, ◌≤◌, Bool, true, false, Some, sym, refl, subst, arith}
+use Rattle.std.specs.Prelude.{if◌then◌else◌}
 use Rattle.std.proofs.lemmas.Option.{same_Some}
 use Rattle.tp_base.specs.Table.{at-put_same, at-put_other}
 use Rattle.set_cache.specs.Cache.{EachDirty}
@@ -7,16 +8,16 @@ use Rattle.mem_system.specs.Hierarchy.{colour_of_line}
 use Rattle.mem_system.specs.Sharing as sharing
 use Rattle.mem_system.specs.Worst.{HasWays}
 use Rattle.mem_system.proofs.Clean.{stays_clean_law}
-use Rattle.sched_table.specs.Schedule.{last_end, outgoing, harts_in}
+use Rattle.sched_table.specs.Schedule.{last_end, outgoing, switch_entry, place_on, harts_in}
 use Rattle.image_check.specs.Own.{Own}
 use Rattle.image_check.specs.Image.{Image, own_of}
 use Rattle.image_check.specs.Laws.{Runnable}
 use Rattle.world_view.specs.Cost.{hierarchy, region, own_colour}
 use Rattle.world_view.specs.Kernel.{no_dom}
-use Rattle.world_view.specs.Machine.{Hart, Local, World, hart_of, caches_of, clock_of, dom_of, part_of, with_part, with_hart, setting, step, guarded, switch_on}
+use Rattle.world_view.specs.Machine.{Hart, Local, World, hart_of, caches_of, clock_of, dom_of, part_of, with_part, with_hart, setting, step, guarded, switch_on, cycles_on, noted}
 use Rattle.world_view.specs.EventLaws.{step_touches}
 use Rattle.world_view.specs.Relations.{IsDomain, IsKernel, SamePart, Resident, KernelIsClean, OwnDirty, HasFacts, InTime, Apiece, left_colours, largest_step, ended_own}
-use Rattle.world_view.specs.Harts.{image_on, domain_in, start_on, end_on, hart_of_domain, runs}
+use Rattle.world_view.specs.Harts.{Harts, image_on, domain_in, start_on, end_on, hart_of_domain, runs, slots_of, proceeds, begins, settles}
 use Rattle.world_view.proofs.opening.Separate.{Separated}
 use Rattle.world_view.proofs.opening.OpeningFacts.{kernel_of, parties_of}
 use Rattle.world_view.proofs.steps.Fuel.{step_later}
@@ -82,6 +83,25 @@ module _ (i : Image) where
       clean = still_clean was.clean;
     }
 
+-- ---- the switch into its next slot
+
+module _ (i : Image) (h : ℕ) (s : Harts) where
+  -- after it
+  abbrev pub begun_world : World
+  begun_world =
+      let on = image_on i h in
+      let k = slots_of h s in
+      noted (place_on i.all.schedule h (switch_entry on.all.schedule k))
+      (cycles_on (guarded on) on h k s.world) (switch_on (guarded on) on h k s.world)
+
+  -- where it ends before the slot's end, the hart is in the slot
+  pub begins_in : clock_of h begun_world < end_on i h (slots_of h s)
+      → begins None i h s ≡ proceeds h s begun_world (slots_of h s) true
+  unfolding begins settles guarded
+  begins_in soon =
+      ap (λ (b : Bool). if b then proceeds h s begun_world (slots_of h s) true
+      else proceeds h s begun_world (suc (slots_of h s)) false) (lt-ltb _ _ soon)
+
 module _ (i : Image) (r : Runnable i) (h : ℕ) (is : h < harts_in i.all.schedule) where
   abbrev on : Image
   on = image_on i h
@@ -108,6 +128,10 @@ module _ (i : Image) (r : Runnable i) (h : ℕ) (is : h < harts_in i.all.schedul
         dirty = switched_dirty on r_on h k w;
         clean = switched_clean on r_on h k w time.clean;
       }
+
+  pub begins_is : (s : Harts) → InTime on h (slots_of h s) s.world
+      → begins None i h s ≡ proceeds h s (begun_world i h s) (slots_of h s) true
+  begins_is s time = begins_in i h s (switch_inside (slots_of h s) s.world time).soon
 
   -- who leaves is on this hart
   leaves_not : (k d : ℕ) → h ≢ hart_of_domain i d → outgoing on.all.schedule k ≢ Some d
@@ -137,17 +161,17 @@ module _ (i : Image) (r : Runnable i) (h : ℕ) (is : h < harts_in i.all.schedul
     abbrev pub stepped : Local
     stepped = step (setting i.all.hardware its false) (end_on i h k) here
 
-    pub ran-hart : hart_of h (runs i h k w)
+    pub ran-hart : hart_of h (runs None i h k w)
         ≡ record (hart_of h w) { core = stepped.caches.core; clock = stepped.clock }
-    unfolding runs with_part
+    unfolding runs with_part guarded
     ran-hart = hart-with h _ stepped.caches stepped.clock
 
-    pub ran-caches : caches_of h (runs i h k w) ≡ stepped.caches
-    unfolding runs with_part
+    pub ran-caches : caches_of h (runs None i h k w) ≡ stepped.caches
+    unfolding runs with_part guarded
     ran-caches = caches-with h _ stepped.caches stepped.clock
 
-    pub ran-clock : clock_of h (runs i h k w) ≡ stepped.clock
-    unfolding runs with_part
+    pub ran-clock : clock_of h (runs None i h k w) ≡ stepped.clock
+    unfolding runs with_part guarded
     ran-clock = clock-with h _ stepped.caches stepped.clock
 
     pub later : clock_of h w < stepped.clock
@@ -174,7 +198,7 @@ module _ (i : Image) (r : Runnable i) (h : ℕ) (is : h < harts_in i.all.schedul
     ran_resident there = step_resident i.all.hardware its its_kernel (end_on i h k) here facts there
 
     -- the slot goes on
-    pub still_inside : clock_of h (runs i h k w) < end_on i h k → IsInside i h k (runs i h k w)
+    pub still_inside : clock_of h (runs None i h k w) < end_on i h k → IsInside i h k (runs None i h k w)
     still_inside early =
         let begun = inside.begun in
         let past = later in
@@ -188,7 +212,7 @@ module _ (i : Image) (r : Runnable i) (h : ℕ) (is : h < harts_in i.all.schedul
         }
 
     -- or it has ended
-    pub now_over : end_on i h k ≤ clock_of h (runs i h k w) → InTime on h (suc k) (runs i h k w)
+    pub now_over : end_on i h k ≤ clock_of h (runs None i h k w) → InTime on h (suc k) (runs None i h k w)
     now_over over =
         let soon = is_soon.clock in
         let now = ran-clock in
@@ -202,8 +226,8 @@ module _ (i : Image) (r : Runnable i) (h : ℕ) (is : h < harts_in i.all.schedul
 
     -- it leaves another domain
     pub step_leaves : (d : ℕ) → IsDomain i d → d ≢ domain_in i h k
-        → (dom_of (runs i h k w) d ≡ dom_of w d) × SamePart i.all.hardware (own_of i d) (part_of h d (runs i h k w)) (part_of h d w)
-    unfolding runs with_part with_hart
+        → (dom_of (runs None i h k w) d ≡ dom_of w d) × SamePart i.all.hardware (own_of i d) (part_of h d (runs None i h k w)) (part_of h d w)
+    unfolding runs with_part with_hart guarded
     step_leaves d id other =
         let left =
         others_step i.all.hardware (own_of i d) its (end_on i h k) here
@@ -211,6 +235,6 @@ module _ (i : Image) (r : Runnable i) (h : ℕ) (is : h < harts_in i.all.schedul
         (at-put_other no_dom w.doms (domain_in i h k) d _ other, record { frames = left.frames; sets = left.sets })
 
     -- and its own domain as the step leaves it
-    pub step_own : dom_of (runs i h k w) (domain_in i h k) ≡ stepped.dom
-    unfolding runs with_part with_hart
+    pub step_own : dom_of (runs None i h k w) (domain_in i h k) ≡ stepped.dom
+    unfolding runs with_part with_hart guarded
     step_own = at-put_same no_dom w.doms (domain_in i h k) stepped.dom

@@ -23,7 +23,7 @@ use Rattle.world_view.specs.Machine.{World, with_hart, clock_of, dom_of, part_of
 use Rattle.world_view.specs.View.{view_alone}
 use Rattle.world_view.specs.Used.{count_of}
 use Rattle.world_view.specs.Relations.{IsDomain, KernelIsClean, InTime, AllWithinPads, ended_own}
-use Rattle.world_view.specs.Harts.{Harts, Progress, public_on, image_on, start_on, hart_of_domain, progress_of, slots_of, switches_of, next, after, all_cold, harts, view_on, view_alone_on}
+use Rattle.world_view.specs.Harts.{Harts, Progress, public_on, image_on, start_on, hart_of_domain, progress_of, slots_of, switches_of, next, after, all_cold, harts, view_on, view_alone_on, after_by, harts_by}
 use Rattle.world_view.specs.Laws.{TwoRunLaw}
 use Rattle.world_view.specs.HartLaws.{AreHartsOf, IsBetween, HartIsolationLaw, TwoOrdersLaw, HartPadLaw, HartLargestLaw, HartCountLaw, OtherHartsLaw, NextLaw}
 use Rattle.world_view.proofs.opening.Separate.{Separated, separated}
@@ -88,7 +88,7 @@ module _ (i : Image) (r : Runnable i) where
 
   -- each hart is as at first
   pub at_first : (h : ℕ) → progress_of h (harts i []) ≡ record { slots = 0; inside = false }
-  unfolding harts after
+  unfolding harts_by after_by
   at_first h = at-empty (record { slots = 0; inside = false }) h
 
   none_counted : (e n : ℕ) → count_of e [] ≤ n
@@ -96,7 +96,7 @@ module _ (i : Image) (r : Runnable i) where
   none_counted e n = omega arith
 
   first_running : Running i r (harts i [])
-  unfolding harts after
+  unfolding harts_by after_by
   first_running = record {
     facts = first_facts;
     hart = λ h l. subst (λ (x : Progress). IsHart i x.inside h x.slots first) (sym (at_first h)) (first_time h l);
@@ -112,7 +112,7 @@ module _ (i : Image) (r : Runnable i) where
 
   -- after every order
   pub running : (order : List ℕ) → AreHartsOf i order → Running i r (harts i order)
-  unfolding harts after
+  unfolding harts_by after_by
   running order below = after_running i r order _ below first_running
 
   between_if : (b : Bool) (h k : ℕ) (w : World) → clock_of h w < start_on i h k → IsHart i b h k w → b ≡ false
@@ -160,12 +160,12 @@ hart_largest i order e r below = largest_within i.all.schedule e (harts i order)
 
 after_append : (i : Image) (order : List ℕ) (h : ℕ) (s : Harts)
     → after i (order ++ h ∷ []) s ≡ next i h (after i order s)
-unfolding after
+unfolding after_by
 after_append i [] h s = refl
 after_append i (g ∷ gs) h s = after_append i gs h (next i g s)
 
 pub next_law : NextLaw
-unfolding harts
+unfolding harts_by
 next_law i order h = after_append i order h _
 
 pub hart_counts : HartCountLaw

@@ -1,12 +1,12 @@
 -- Each domain on its hart beside the domain alone, from event to event.
-use Rattle.std.proofs.Common.{◌≡◌, ◌≢◌, ℕ, Bool, true, false, eqb, zero, suc, ◌<◌, ◌≤◌, ap, sym, ◌∙◌, refl, subst, arith, true≢false, eqb-true, eq-eqb}
+use Rattle.std.proofs.Common.{None, ◌≡◌, ◌≢◌, ℕ, Bool, true, false, eqb, zero, suc, ◌<◌, ◌≤◌, ap, sym, ◌∙◌, refl, subst, arith, true≢false, eqb-true, eq-eqb}
 use Rattle.sched_table.specs.Schedule.{harts_in}
 use Rattle.image_check.specs.Own.{Own}
 use Rattle.image_check.specs.Image.{Image, own_of}
 use Rattle.image_check.specs.Laws.{Runnable}
 use Rattle.hardware_check.specs.Hardware.{Hardware}
 use Rattle.mem_system.specs.Cost.{Caches}
-use Rattle.world_view.specs.Machine.{Local, World, caches_of, clock_of, dom_of, part_of, with_part, with_hart, setting, step, stretch, alone, alone_in, alone_enter}
+use Rattle.world_view.specs.Machine.{guarded, Local, World, caches_of, clock_of, dom_of, part_of, with_part, with_hart, setting, step, stretch, alone, alone_in, alone_enter}
 use Rattle.world_view.specs.Relations.{IsDomain, IsKernel, HasFacts, OwnDirty, Resident, Beside, Within, Apiece, InTime}
 use Rattle.world_view.specs.Harts.{image_on, domain_in, end_on, runs}
 use Rattle.world_view.proofs.opening.Separate.{Separated}
@@ -118,12 +118,12 @@ module _ (i : Image) (h d : ℕ) where
         (facts : HasFacts p (own_of i (domain_in i h k)) (dom_of w (domain_in i h k)) w.storage)
         (there : Resident p (caches_of h w)) where
       abbrev w' : World
-      w' = runs i h k w
+      w' = runs None i h k w
 
       -- where the step is its own, it is as the step leaves it
       moved_here : domain_in i h k ≡ d
           → Within p o (part_of h d w') (step (setting p o false) (end_on i h k) (part_of h d w))
-      unfolding runs with_part with_hart
+      unfolding runs with_part with_hart guarded
       moved_here same =
           subst (λ (e : ℕ). Within p (own_of i e) (part_of h e w')
           (step (setting p (own_of i e) false) (end_on i h k) (part_of h e w))) same

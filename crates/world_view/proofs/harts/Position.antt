@@ -1,5 +1,5 @@
 -- Where a hart is after so many of its own events, by the domains of its slots as they are alone.
-use Rattle.std.proofs.Common.{◌≡◌, ◌≢◌, ℕ, zero, suc, ◌<◌, Bool, true, false, eqb-true, nat_lt, length, List, [], ◌∷◌, ap, sym, ◌∙◌, refl, subst}
+use Rattle.std.proofs.Common.{None, ◌≡◌, ◌≢◌, ℕ, zero, suc, ◌<◌, Bool, true, false, eqb-true, nat_lt, length, List, [], ◌∷◌, ap, sym, ◌∙◌, refl, subst}
 use Rattle.std.specs.Prelude.{◌==◌, cond, if◌then◌else◌}
 use Rattle.std.specs.List.{All, filter}
 use Rattle.std.proofs.lemmas.Bool.{eqb-false}
@@ -9,17 +9,17 @@ use Rattle.image_check.specs.Own.{Own}
 use Rattle.image_check.specs.Image.{Image, own_of}
 use Rattle.image_check.specs.Laws.{Runnable}
 use Rattle.sched_table.specs.Schedule.{harts_in}
-use Rattle.world_view.specs.Machine.{Hart, Local, World, hart_of, clock_of, part_of, setting, step, alone, alone_enter, alone_opening}
+use Rattle.world_view.specs.Machine.{guarded, Hart, Local, World, hart_of, clock_of, part_of, setting, step, alone, alone_enter, alone_opening}
 use Rattle.world_view.specs.Relations.{IsDomain, Within}
-use Rattle.world_view.specs.Harts.{Harts, Progress, image_on, domain_in, end_on, progress_of, slots_of, proceeds, begins, runs, goes_on, next, after, harts}
+use Rattle.world_view.specs.Harts.{Harts, Progress, image_on, domain_in, end_on, progress_of, slots_of, proceeds, begins, runs, goes_on, next, after, harts, next_by, after_by, harts_by, settles}
 use Rattle.world_view.specs.HartLaws.{AreHartsOf, events_of}
 use Rattle.world_view.proofs.opening.Separate.{Separated}
 use Rattle.world_view.proofs.runs.Joined.{it_enters}
 use Rattle.world_view.proofs.harts.OnHart.{separated_on, hart_is}
-use Rattle.world_view.proofs.harts.Events.{IsHart}
+use Rattle.world_view.proofs.harts.Events.{IsHart, begun_world, begins_is}
 use Rattle.world_view.proofs.harts.Meets.{Meets, within_trans, moved}
 use Rattle.world_view.proofs.harts.Runs.{Running, all_cold_are, progress-same, here, there_if, next_so}
-use Rattle.world_view.proofs.harts.Clocks.{begun_world, hart_stays}
+use Rattle.world_view.proofs.harts.Clocks.{hart_stays}
 use Rattle.world_view.proofs.harts.Isolation.{at_first, running}
 
 -- how far it is, and the domain of its slot, or of the last that it had
@@ -96,7 +96,7 @@ module _ (i : Image) (h : ℕ) where
     r_on = separated_on i r h is
 
     at_start : IsAt (harts i []) first
-    unfolding harts after first alone_opening
+    unfolding harts_by after_by first alone_opening
     at_start = record { progress = at_first i r h; near = (all_cold_are i _ h is).clock }
 
     module _ (s : Harts) (was : Running i r s) where
@@ -118,11 +118,12 @@ module _ (i : Image) (h : ℕ) where
       -- ---- its own event
 
       begins_at : (progress_of h s).inside ≡ false
-          → IsAt (begins i h s) (record { progress = record { slots = k; inside = true }; local = entered k })
-      unfolding begins
+          → IsAt (begins None i h s) (record { progress = record { slots = k; inside = true }; local = entered k })
       begins_at t =
-          proceeds_at s (begun_world i h s) k true (entered k)
-          (it_enters on r_on d id h s.world k refl (its_hart false t) (met false t))
+          subst (λ (x : Harts). IsAt x (record { progress = record { slots = k; inside = true }; local = entered k }))
+          (sym (begins_is i r h is s (its_hart false t)))
+          (proceeds_at s (begun_world i h s) k true (entered k)
+          (it_enters on r_on d id h s.world k refl (its_hart false t) (met false t)))
 
       ends_at : (b : Bool) (w : World) (a : Local) → Within p (its k) (part_of h d w) a
           → IsAt (if b then proceeds h s w k true else proceeds h s w (suc k) false) (ends_if b k a)
@@ -131,25 +132,25 @@ module _ (i : Image) (h : ℕ) where
       ends_at false w a near = proceeds_at s w (suc k) false a near.clock
 
       goes_at : (a : Local) → (progress_of h s).inside ≡ true → Within p (its k) (part_of h d s.world) a
-          → IsAt (goes_on i h s) (ends_if (nat_lt (stepped k a).clock (end_on i h k)) k (stepped k a))
-      unfolding goes_on
+          → IsAt (goes_on None i h s) (ends_if (nat_lt (stepped k a).clock (end_on i h k)) k (stepped k a))
+      unfolding goes_on settles guarded
       goes_at a t near =
-          let w = runs i h k s.world in
+          let w = runs None i h k s.world in
           let near' = moved i h d r is id k s.world (its_hart true t) (was.facts d id).facts (there_if i r h s t was.shared) refl a near in
           subst (λ (n : ℕ). IsAt (if (nat_lt n (end_on i h k)) then proceeds h s w k true else proceeds h s w (suc k) false)
           (ends_if (nat_lt (stepped k a).clock (end_on i h k)) k (stepped k a))) (sym near'.clock)
           (ends_at (nat_lt (stepped k a).clock (end_on i h k)) w (stepped k a) near')
 
-      next_by : (b : Bool) (a : Local) → (progress_of h s).inside ≡ b → NearIf b k s.world a
-          → IsAt (if b then goes_on i h s else begins i h s) (moves_if b k a)
+      moved_if : (b : Bool) (a : Local) → (progress_of h s).inside ≡ b → NearIf b k s.world a
+          → IsAt (if b then goes_on None i h s else begins None i h s) (moves_if b k a)
       unfolding moves_if
-      next_by true a t near = goes_at a t near
-      next_by false a t near = begins_at t
+      moved_if true a t near = goes_at a t near
+      moved_if false a t near = begins_at t
 
       next_here : (a : Local) → NearIf (progress_of h s).inside k s.world a
           → IsAt (next i h s) (moves (record { progress = progress_of h s; local = a }))
-      unfolding next moves
-      next_here a near = next_by (progress_of h s).inside a refl near
+      unfolding next_by moves
+      next_here a near = moved_if (progress_of h s).inside a refl near
 
       own_event : (x : Position) → IsAt s x → IsAt (next i h s) (moves x)
       own_event x at =
@@ -200,7 +201,7 @@ module _ (i : Image) (h : ℕ) where
     after_at : (order : List ℕ) (s : Harts) (x : Position) → All (λ g. g < harts_in i.all.schedule) order
         → Running i r s → IsAt s x
         → IsAt (after i order s) (onward (events_of h order) x)
-    unfolding after onward
+    unfolding after_by onward
     after_at [] s x below was at = at
     after_at (g ∷ gs) s x below was at =
         let one = All-head (λ (n : ℕ). n < harts_in i.all.schedule) g gs below in
@@ -211,5 +212,5 @@ module _ (i : Image) (h : ℕ) where
 
     pub is_at : (order : List ℕ) → AreHartsOf i order
         → IsAt (harts i order) (onward (events_of h order) first)
-    unfolding harts after
+    unfolding harts_by after_by
     is_at order below = after_at order (harts i []) first below (running i r [] (All-nil (λ (n : ℕ). n < harts_in i.all.schedule))) at_start

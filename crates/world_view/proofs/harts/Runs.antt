@@ -1,5 +1,5 @@
 -- What holds of an image's harts after every order of events.
-use Rattle.std.proofs.Common.{◌≡◌, ◌≢◌, ℕ, Bool, true, false, true≢false, zero, suc, ◌+◌, ◌<◌, ◌≤◌, length, ◌++◌, ltb, ltb-true, ap, sym, ◌∙◌, refl, subst, arith, inl, inr, ◌⊎◌, List, [], ◌∷◌}
+use Rattle.std.proofs.Common.{None, ◌≡◌, ◌≢◌, ℕ, Bool, true, false, true≢false, zero, suc, ◌+◌, ◌<◌, ◌≤◌, length, ◌++◌, ltb, ltb-true, ap, sym, ◌∙◌, refl, subst, arith, inl, inr, ◌⊎◌, List, [], ◌∷◌}
 use Rattle.std.specs.Prelude.{if◌then◌else◌}
 use Rattle.std.specs.List.{All}
 use Rattle.std.proofs.lemmas.Bool.{cases_eq, ltb-false}
@@ -17,7 +17,7 @@ use Rattle.world_view.specs.Machine.{Hart, World, no_hart, hart_of, caches_of, c
 use Rattle.world_view.specs.Used.{count_of}
 use Rattle.world_view.proofs.steps.CodeLaws.{count_of-push_same, count_of-push_other}
 use Rattle.world_view.specs.Relations.{IsDomain, Resident, KernelIsClean, HasFacts, InTime, Within, Apiece, AllWithinPads}
-use Rattle.world_view.specs.Harts.{Harts, Progress, image_on, domain_in, end_on, hart_of_domain, progress_of, slots_of, switches_of, proceeds, begins, runs, goes_on, next, after, all_cold, harts}
+use Rattle.world_view.specs.Harts.{Harts, Progress, image_on, domain_in, end_on, hart_of_domain, progress_of, slots_of, switches_of, proceeds, begins, runs, goes_on, next, after, all_cold, harts, next_by, after_by, harts_by, settles}
 use Rattle.world_view.specs.HartLaws.{LeftAlone}
 use Rattle.world_view.specs.Laws.{opening_memory}
 use Rattle.world_view.specs.Event.{Storage}
@@ -27,7 +27,7 @@ use Rattle.world_view.proofs.facts.ResidencyLaws.{boot_resident, switched_reside
 use Rattle.world_view.proofs.time.TimeLaws.{used_in_pad, within_append}
 use Rattle.world_view.proofs.runs.SwitchParts.{caches-with, clock-with}
 use Rattle.world_view.proofs.harts.OnHart.{separated_on, padded_on, placed_switch, not_here}
-use Rattle.world_view.proofs.harts.Events.{IsHart, IsInside, still, switched, switch_inside, switch_leaves, ran-caches, ran_clean, ran_resident, still_inside, now_over, step_leaves}
+use Rattle.world_view.proofs.harts.Events.{IsHart, IsInside, still, begun_world, begins_is, switched, switch_inside, switch_leaves, ran-caches, ran_clean, ran_resident, still_inside, now_over, step_leaves}
 use Rattle.world_view.proofs.harts.Meets.{Meets, still_meets, switch_meets, on_meets, over_meets}
 
 -- ---- before the first event
@@ -45,7 +45,7 @@ module _ (i : Image) where
 
   -- memory is as it opens
   pub opening_memory_is : opening_memory i ≡ (opening i).storage.mem
-  unfolding harts after opening with_hart
+  unfolding harts_by after_by opening with_hart
   opening_memory_is = ap (λ (t : Storage). t.mem) (storage_cold (harts_in i.all.schedule))
 
   pub used_cold : (n : ℕ) → (all_cold i n).used ≡ []
@@ -232,7 +232,7 @@ module _ (i : Image) (r : Runnable i) where
     place = place_on i.all.schedule h (switch_entry on.all.schedule k)
 
     abbrev begun : World
-    begun = noted place (cycles_on (guarded on) on h k s.world) (switched i r h is k s.world)
+    begun = begun_world i h s
 
     -- it is within the pad of the entry to which it belongs
     in_pad : cycles_on (guarded on) on h k s.world ≤ (entry_in i.all.schedule place).pad
@@ -246,7 +246,7 @@ module _ (i : Image) (r : Runnable i) where
     -- after the first of all the shared lines are there, and later ones leave them
     begun_resident : (s ≡ harts i []) ⊎ Resident p (caches_of 0 s.world)
         → Resident p (caches_of h (switched i r h is k s.world))
-    unfolding harts after
+    unfolding harts_by after_by
     begun_resident (inl first) =
         let start : Harts = harts i [] in
         let none : slots_of h start ≡ 0 = ap (λ (x : Progress). x.slots) (at-empty (record { slots = 0; inside = false }) h) in
@@ -299,9 +299,8 @@ module _ (i : Image) (r : Runnable i) where
           others_counted = begun_others;
         }
 
-    pub begins_next : Next h s (begins i h s)
-    unfolding begins
-    begins_next = proceeded h s begun k true begins_so was
+    pub begins_next : Next h s (begins None i h s)
+    begins_next = subst (Next h s) (sym (begins_is i r h is s time)) (proceeded h s begun k true begins_so was)
 
   -- ---- one event in a slot
 
@@ -316,7 +315,7 @@ module _ (i : Image) (r : Runnable i) where
     d0 = domain_in i h slot
 
     abbrev ran : World
-    ran = runs i h slot s.world
+    ran = runs None i h slot s.world
 
     facts0 : HasFacts p (own_of i d0) (dom_of s.world d0) s.world.storage
     facts0 = (was.facts d0 ((separated_on i r h is).named slot)).facts
@@ -326,7 +325,7 @@ module _ (i : Image) (r : Runnable i) where
     ran_facts = step_keeps_all i all (guarded i) h d0 (end_on i h slot) s.world ((separated_on i r h is).named slot) was.facts
 
     ran_others : (g : ℕ) → g ≢ h → hart_of g ran ≡ hart_of g s.world
-    unfolding runs with_part with_hart
+    unfolding runs with_part with_hart guarded
     ran_others g other = at-put_other no_hart s.world.harts h g _ other
 
     ran_left : (d : ℕ) → IsDomain i d → h ≢ hart_of_domain i d
@@ -336,19 +335,19 @@ module _ (i : Image) (r : Runnable i) where
         record { dom = left.0; part = left.1 }
 
     ran_used : AllWithinPads i.all.schedule ran.used
-    unfolding runs with_part with_hart
+    unfolding runs with_part with_hart guarded
     ran_used = was.used
 
     ran_counted : (e : ℕ) → e < length i.all.schedule → (entry_in i.all.schedule e).hart ≡ h
         → count_of e ran.used ≤ slot + 1
-    unfolding runs with_part with_hart
+    unfolding runs with_part with_hart guarded
     ran_counted e l home =
         subst (λ (b : Bool). count_of e s.world.used ≤ (if b then slot + 1 else slot)) within
         (subst (λ (x : ℕ). count_of e s.world.used ≤ switches_of x s) home (was.counted e l))
 
     ran_others_counted : (e : ℕ) → (entry_in i.all.schedule e).hart ≢ h
         → count_of e ran.used ≡ count_of e s.world.used
-    unfolding runs with_part with_hart
+    unfolding runs with_part with_hart guarded
     ran_others_counted e other = refl
 
     ran_clean_here : KernelIsClean p (caches_of h ran)
@@ -388,8 +387,8 @@ module _ (i : Image) (r : Runnable i) where
       others_counted = ran_others_counted;
     }) was
 
-    pub goes_next : Next h s (goes_on i h s)
-    unfolding goes_on
+    pub goes_next : Next h s (goes_on None i h s)
+    unfolding goes_on settles guarded
     goes_next = goes_if (ltb (clock_of h ran) (end_on i h slot)) refl
 
   -- ---- every event
@@ -397,7 +396,7 @@ module _ (i : Image) (r : Runnable i) where
   -- a hart in a slot is past its boot
   pub there_if : (h : ℕ) (s : Harts) → (progress_of h s).inside ≡ true
       → (s ≡ harts i []) ⊎ Resident p (caches_of 0 s.world) → Resident p (caches_of 0 s.world)
-  unfolding harts after
+  unfolding harts_by after_by
   there_if h s inside (inl first) =
       let none : (progress_of h s).inside ≡ false =
       ap (λ (t : Harts). (progress_of h t).inside) first
@@ -406,7 +405,7 @@ module _ (i : Image) (r : Runnable i) where
   there_if h s inside (inr there) = there
 
   next_if : (h : ℕ) → h < many → (s : Harts) → Running s → (b : Bool) → (progress_of h s).inside ≡ b
-      → Next h s (if b then goes_on i h s else begins i h s)
+      → Next h s (if b then goes_on None i h s else begins None i h s)
   next_if h l s was true t =
       goes_next h l s was t (subst (λ (b : Bool). IsHart i b h (slots_of h s) s.world) t (was.hart h l))
       (λ d id home. subst (λ (b : Bool). Meets i h d b (slots_of h s) (part_of h d s.world)) t (here s was h d id home))
@@ -416,12 +415,12 @@ module _ (i : Image) (r : Runnable i) where
       (λ d id home. subst (λ (b : Bool). Meets i h d b (slots_of h s) (part_of h d s.world)) t (here s was h d id home))
 
   pub next_so : (h : ℕ) → h < many → (s : Harts) → Running s → Next h s (next i h s)
-  unfolding next
+  unfolding next_by
   next_so h l s was = next_if h l s was (progress_of h s).inside refl
 
   pub after_running : (order : List ℕ) (s : Harts) → All (λ h. h < many) order → Running s
       → Running (after i order s)
-  unfolding after
+  unfolding after_by
   after_running [] s below was = was
   after_running (h ∷ hs) s below was =
       after_running hs (next i h s) (All-tail (λ (x : ℕ). x < many) h hs below)

@@ -1,30 +1,31 @@
--- Where an image has one hart, the machine that goes from slot to slot is the one that goes from event to event.
-use Rattle.std.proofs.Common.{◌≡◌, ◌∙◌, ℕ, suc, ◌+◌, ◌-◌, max, ◌<◌, ◌≤◌, Bool, true, false, List, [], ◌∷◌, ◌++◌, length, inl, inr, ap, ap₂, sym, subst, refl, arith, ltb}
-use Rattle.std.specs.Prelude.{if◌then◌else◌}
+-- Where an image has one hart, the machine that goes from slot to slot is the one that goes from event to event, whichever guards are on.
+use Rattle.std.proofs.Common.{◌≡◌, ◌∙◌, ℕ, zero, suc, ◌+◌, ◌-◌, ◌<◌, ◌≤◌, Bool, true, false, List, [], ◌∷◌, ◌++◌, length, Option, None, Some, inl, inr, ap, ap₂, sym, subst, refl, arith, ltb, ltb-true}
+use Rattle.std.specs.Prelude.{if◌then◌else◌, max}
+use Rattle.std.specs.List.{All}
 use Rattle.std.proofs.lemmas.Bool.{cases_eq, ltb-false}
-use Rattle.tp_base.specs.Table.{Table, at, put, at-put_same, at-put_other}
+use Rattle.std.proofs.lemmas.List.Elements.{All-head, All-tail}
+use Rattle.tp_base.specs.Table.{Table, at, put, at-put_same, at-put_other, at-empty}
+use Rattle.guards.specs.declared.Guard.{Guard}
 use Rattle.mem_system.specs.Cost.{Caches, Touched}
-use Rattle.sched_table.specs.Schedule.{entry_of_slot, switch_entry, start, last_end, outgoing, place_on, on_hart, harts_in}
+use Rattle.irq_partition.specs.Interrupts.{next_of}
+use Rattle.sched_table.specs.Schedule.{entry_of_slot, switch_entry, slot_end, last_end, outgoing, place_on, on_hart, harts_in}
 use Rattle.image_check.specs.Public.{Public}
 use Rattle.image_check.specs.Image.{Image, own_of}
 use Rattle.image_check.specs.Laws.{Runnable}
-use Rattle.call_table.specs.Domain.{Dom}
+use Rattle.call_table.specs.Domain.{Dom, is_running}
 use Rattle.world_view.specs.Kernel.{no_dom}
-use Rattle.world_view.specs.Event.{Storage}
-use Rattle.world_view.specs.Machine.{Local, Setting, World, clock_of, dom_of, part_of, with_part, with_hart, with_end, guarded, setting, step, steps, stretch, switch_on, switch_by, switch, switch_work, cycles_on, noted, opening, own_slot, run_slot_by, whole_by, whole}
-use Rattle.world_view.specs.Harts.{Harts, Progress, IsOnOneHart, image_on, domain_in, end_on, progress_of, slots_of, proceeds, begins, runs, goes_on, next, harts, after}
+use Rattle.world_view.specs.Event.{Storage, interrupts_of}
+use Rattle.world_view.specs.Machine.{Local, World, Guards, guards_of, Owned, if_due, first_of, first_due, delivered, delivered_or_step, step_among, steps_among, open_slot, own_slot, own_step, event_if, slot_if, clock_of, ended_of, dom_of, part_of, with_part, with_hart, with_end, setting_by, step, stretch, work_on, switch_work_by, switch_on, switch_by, cycles_on, ended_by, begins_by, ends_by, noted, opening, no_harts, run_slot_by, whole_by}
+use Rattle.world_view.specs.Harts.{Harts, Progress, IsOnOneHart, image_on, progress_of, slots_of, proceeds, settles, begins, runs, goes_on, next_by, all_cold, harts_by, after_by}
 use Rattle.world_view.specs.HartLaws.{AreHartsOf}
 use Rattle.world_view.specs.Laws.{SameWorld, WholeLaw}
-use Rattle.world_view.proofs.opening.Separate.{Separated}
-use Rattle.world_view.proofs.steps.Fuel.{IsTimed, steps_by, one_more_by, stretch_step, stretch_done}
-use Rattle.world_view.proofs.steps.InSlot.{local_in, world_in}
-use Rattle.world_view.proofs.harts.OnHart.{separated_on, entry_there}
+use Rattle.world_view.proofs.opening.Separate.{Separated, separated}
+use Rattle.world_view.proofs.steps.Fuel.{stretch_step, stretch_done}
+use Rattle.world_view.proofs.runs.GuardLaws.{open_step, open_done}
+use Rattle.world_view.proofs.harts.OnHart.{entry_there}
 use Rattle.world_view.proofs.harts.OneHart.{one_hart, all_on_first}
-use Rattle.world_view.proofs.harts.Events.{IsHart}
-use Rattle.world_view.proofs.harts.Runs.{Running, doms_cold, storage_cold, used_cold, all_cold_are, progress-same}
-use Rattle.world_view.proofs.harts.Clocks.{begun_world}
-use Rattle.world_view.proofs.harts.Isolation.{at_first}
-use Rattle.world_view.proofs.harts.Always.{always, part-with}
+use Rattle.world_view.proofs.harts.Runs.{progress-same}
+use Rattle.world_view.proofs.harts.Always.{part-with}
 
 same_trans : (u v w : World) → SameWorld u v → SameWorld v w → SameWorld u w
 same_trans u v w h k = record {
@@ -95,66 +96,295 @@ same_end : (w : World) (end : ℕ) → SameWorld (with_end 0 w end) w
 unfolding with_end at put
 same_end w end = record { doms = λ d. refl; storage = refl; caches = refl; clock = refl; used = refl }
 
--- ---- steps of a slot
+same_sym : (w v : World) → SameWorld w v → SameWorld v w
+same_sym w v h = record {
+  doms = λ d. sym (h.doms d);
+  storage = sym h.storage;
+  caches = sym h.caches;
+  clock = sym h.clock;
+  used = sym h.used;
+}
 
-module _ (w : Setting) (timed : IsTimed w.machine) (end : ℕ) where
-  -- one more, where the clock is below the end
-  next_step : (n : ℕ) (s : Local) → (steps w end n s).clock < end → step w end (steps w end n s) ≡ steps w end (suc n) s
-  next_step n s =
-      one_more_by w end (λ (a b : Local). a.clock < end → step w end a ≡ b) (λ a below _. refl)
-      (λ a past below. absurd (omega (arith, past, below))) n s
+same_refl : (w : World) → SameWorld w w
+same_refl w = record { doms = λ d. refl; storage = refl; caches = refl; clock = refl; used = refl }
 
-  -- where the clock is past the end after so many, they are all of the slot
-  all_steps : (n : ℕ) (s : Local) → end ≤ (steps w end n s).clock → stretch w end s ≡ steps w end n s
-  all_steps n s over =
-      let same = steps_by w end (λ (a : Local). stretch w end a ≡ stretch w end s)
-      (λ a below h. sym (stretch_step w timed end a below) ∙ h) n s refl in
-      sym same ∙ stretch_done w timed end (steps w end n s) over
+-- ---- what is left of a slot
+
+module _ (i : Image) (r : Separated i) (g : Guards) (d end : ℕ) where
+  -- by worlds that are the same it leads to the same
+
+  first_same : (w v : World) → SameWorld w v → (n : ℕ) → first_due i 0 w n ≡ first_due i 0 v n
+  unfolding first_due
+  first_same w v h zero = refl
+  first_same w v h (suc e) =
+      ap₂ first_of (first_same w v h e)
+      (ap₂ (λ (t : ℕ) (x : Dom). if_due t e (next_of (interrupts_of (own_of i e) x))) h.clock (h.doms e))
+
+  event_same : (w v : World) (o : Option Owned) → SameWorld w v
+      → SameWorld (delivered_or_step g i 0 d end w o) (delivered_or_step g i 0 d end v o)
+  event_same w v None h =
+      same_part w v d (step (setting_by g i d) end (part_of 0 d w)) _ h (ap (step (setting_by g i d) end) (part_is w v d h))
+  event_same w v (Some x) h =
+      same_part w v x.owner (delivered (setting_by g i d) x.moment.line (part_of 0 x.owner w)) _ h
+      (ap (delivered (setting_by g i d) x.moment.line) (part_is w v x.owner h))
+
+  among_same : (w v : World) → SameWorld w v → SameWorld (step_among g i 0 d end w) (step_among g i 0 d end v)
+  unfolding step_among
+  among_same w v h =
+      subst (λ (o : Option Owned). SameWorld (step_among g i 0 d end w) (delivered_or_step g i 0 d end v o))
+      (ap₂ (λ (x : Dom) (o : Option Owned). if is_running x.status then o else None) (h.doms d) (first_same w v h (length i.owns)))
+      (event_same w v (if is_running (dom_of w d).status then first_due i 0 w (length i.owns) else None) h)
+
+  both_if : (b : Bool) (x y w v : World) → SameWorld x y → SameWorld w v
+      → SameWorld (elim b [ true ↦ x | false ↦ w ]) (elim b [ true ↦ y | false ↦ v ])
+  both_if true x y w v h k = h
+  both_if false x y w v h k = k
+
+  steps_same : (n : ℕ) (w v : World) → SameWorld w v
+      → SameWorld (steps_among g i 0 d end n w) (steps_among g i 0 d end n v)
+  unfolding steps_among
+  steps_same zero w v h = h
+  steps_same (suc n) w v h =
+      subst (λ (t : ℕ). SameWorld (steps_among g i 0 d end (suc n) w)
+      (elim (ltb t end) [ true ↦ steps_among g i 0 d end n (step_among g i 0 d end v) | false ↦ v ])) h.clock
+      (both_if (ltb (clock_of 0 w) end) _ _ w v
+      (steps_same n (step_among g i 0 d end w) (step_among g i 0 d end v) (among_same w v h)) h)
+
+  slot_same : (b : Bool) (w v : World) → SameWorld w v → SameWorld (slot_if b g i d end w) (slot_if b g i d end v)
+  unfolding own_slot
+  slot_same true w v h =
+      same_part w v d (stretch (setting_by g i d) end (part_of 0 d w)) _ h (ap (stretch (setting_by g i d) end) (part_is w v d h))
+  slot_same false w v h =
+      subst (λ (t : ℕ). SameWorld (open_slot g i d end w) (steps_among g i 0 d end (end - t) v)) h.clock
+      (steps_same (end - clock_of 0 w) w v h)
+
+  -- it is one event, and then the rest
+
+  own_more : (w : World) → clock_of 0 w < end
+      → SameWorld (own_slot g i d end w) (own_slot g i d end (own_step g i 0 d end w))
+  unfolding own_slot
+  own_more w below =
+      let a = step (setting_by g i d) end (part_of 0 d w) in
+      let all = stretch (setting_by g i d) end (part_of 0 d w) in
+      let rest = stretch (setting_by g i d) end (part_of 0 d (own_step g i 0 d end w)) in
+      same_trans _ (with_part 0 d (own_step g i 0 d end w) all) _ (same_twice w d a all)
+      (same_part _ _ d all rest (same_refl (own_step g i 0 d end w))
+      (stretch_step (setting_by g i d) r.timed end (part_of 0 d w) below
+      ∙ ap (stretch (setting_by g i d) end) (sym (part-with 0 d w a))))
+
+  slot_more : (b : Bool) (w : World) → clock_of 0 w < end
+      → SameWorld (slot_if b g i d end w) (slot_if b g i d end (event_if b g i 0 d end w))
+  slot_more true w below = own_more w below
+  slot_more false w below =
+      subst (SameWorld (open_slot g i d end w)) (open_step i r g d end w below) (same_refl (open_slot g i d end w))
+
+  -- and nothing, where its end has come
+
+  slot_done : (b : Bool) (w : World) → end ≤ clock_of 0 w → SameWorld (slot_if b g i d end w) w
+  unfolding own_slot
+  slot_done true w over =
+      same_trans _ (with_part 0 d w (part_of 0 d w)) w
+      (same_part w w d _ (part_of 0 d w) (same_refl w) (stretch_done (setting_by g i d) r.timed end (part_of 0 d w) over))
+      (same_put w d)
+  slot_done false w over =
+      subst (λ (v : World). SameWorld v w) (sym (open_done i r g d end w over)) (same_refl w)
+
+  -- no event tells when the slot ended
+
+  among_end : (w : World) (o : Option Owned) → ended_of 0 (delivered_or_step g i 0 d end w o) ≡ ended_of 0 w
+  unfolding with_part with_hart at put
+  among_end w None = refl
+  among_end w (Some x) = refl
+
+  event_end : (b : Bool) (w : World) → ended_of 0 (event_if b g i 0 d end w) ≡ ended_of 0 w
+  unfolding with_part with_hart at put step_among
+  event_end true w = refl
+  event_end false w = among_end w (if is_running (dom_of w d).status then first_due i 0 w (length i.owns) else None)
 
 -- ---- an image of one hart
 
-module _ (i : Image) (r : Runnable i) (one : IsOnOneHart i) where
-  abbrev on : Image
-  on = image_on i 0
+module _ (off : Option Guard) (i : Image) (r : Runnable i) (one : IsOnOneHart i) where
+  abbrev g : Guards
+  g = guards_of off i
 
-  is : 0 < harts_in i.all.schedule
-  is = omega (arith, one)
+  abbrev all : Separated i
+  all = separated i r
 
-  r_on : Separated on
-  r_on = separated_on i r 0 is
-
-  on_is : on ≡ i
+  on_is : image_on i 0 ≡ i
   on_is = ap (λ (p : Public). record i { all = p }) (one_hart i one).entries
 
+  -- the domain whose slot it is
+  abbrev its : ℕ → ℕ
+  its k = (entry_of_slot i.all.schedule k).domain
+
+  -- ---- events, by all entries
+
+  -- when a slot ends
+  abbrev end_in : Image → Bool → ℕ → World → ℕ
+  end_in x b k w = if b then slot_end x.all.schedule k else ended_of 0 w
+
+  -- a world as a slot begins
+  abbrev ending_in : Image → Bool → ℕ → World → World
+  ending_in x b k w = if b then w else with_end 0 w (ends_by (guards_of off x) x k (clock_of 0 w))
+
+  abbrev begun_in : Image → ℕ → World → World
+  begun_in x k w =
+      ending_in x (guards_of off x).pad k
+      (noted (place_on i.all.schedule 0 (switch_entry x.all.schedule k))
+      (cycles_on (guards_of off x) x 0 k w) (switch_on (guards_of off x) x 0 k w))
+
+  abbrev begun : ℕ → World → World
+  begun k w = ending_in i g.pad k (switch_by g i k w)
+
+  abbrev end_of : ℕ → World → ℕ
+  end_of k w = end_in i g.pad k w
+
+  begins_all : (s : Harts) → let k = slots_of 0 s in
+      begins off i 0 s ≡ settles 0 s (begun_in i k s.world) k (end_in i g.pad k (begun_in i k s.world))
+  unfolding begins
+  begins_all s =
+      let k = slots_of 0 s in
+      subst (λ (x : Image). begins off i 0 s
+      ≡ settles 0 s (begun_in x k s.world) k (end_in x (guards_of off x).pad k (begun_in x k s.world))) on_is refl
+
   -- each entry stands at its own place
-  place_is : (e : ℕ) → e < length (on_hart i.all.schedule 0) → place_on i.all.schedule 0 e ≡ e
-  place_is e below = all_on_first i.all.schedule one e below
+  place_is : (k : ℕ) → place_on i.all.schedule 0 (switch_entry i.all.schedule k) ≡ switch_entry i.all.schedule k
+  place_is k =
+      subst (λ (x : Image). place_on i.all.schedule 0 (switch_entry x.all.schedule k) ≡ switch_entry x.all.schedule k) on_is
+      (all_on_first i.all.schedule one (switch_entry (image_on i 0).all.schedule k) (entry_there i r 0 (omega (arith, one)) k))
+
+  begun_is : (k : ℕ) (w : World) → begun_in i k w ≡ begun k w
+  unfolding switch_by
+  begun_is k w =
+      ap (λ (e : ℕ). ending_in i g.pad k (noted e (cycles_on g i 0 k w) (switch_on g i 0 k w))) (place_is k)
+
+  begins_one : (s : Harts) → let k = slots_of 0 s in
+      begins off i 0 s ≡ settles 0 s (begun k s.world) k (end_of k (begun k s.world))
+  begins_one s =
+      let k = slots_of 0 s in
+      begins_all s ∙ ap (λ (w : World). settles 0 s w k (end_of k w)) (begun_is k s.world)
+
+  event : ℕ → World → World
+  event k w = event_if g.irq g i 0 (its k) (end_of k w) w
+
+  goes_one : (s : Harts) → let k = slots_of 0 s in
+      goes_on off i 0 s ≡ settles 0 s (event k s.world) k (end_of k s.world)
+  unfolding goes_on runs event
+  goes_one s =
+      let k = slots_of 0 s in
+      subst (λ (x : Image). goes_on off i 0 s
+      ≡ settles 0 s (event_if g.irq g i 0 (entry_of_slot x.all.schedule k).domain (end_in x g.pad k s.world) s.world) k
+      (end_in x g.pad k s.world)) on_is refl
 
   -- ---- a switch
 
-  abbrev work : ℕ → Caches → Touched
-  work k c = switch_work on (outgoing on.all.schedule k) (entry_of_slot on.all.schedule k).domain c
+  -- the same world, and where nobody waits also when the last slot ended
+  record Between (k : ℕ) (w : World) : Type 0 where
+    same : SameWorld (whole_by g i k) w
+    ended : g.pad ≡ false → ended_of 0 (whole_by g i k) ≡ ended_of 0 w
 
-  switched_same : (k : ℕ) (w v : World) → SameWorld w v
-      → SameWorld (switch on k w)
-      (noted (place_on i.all.schedule 0 (switch_entry on.all.schedule k)) (cycles_on (guarded on) on 0 k v) (switch_on (guarded on) on 0 k v))
-  unfolding switch_by switch_on guarded with_hart at put
-  switched_same k w v h = record {
-    doms = h.doms;
-    storage = h.storage;
-    caches = ap (λ (c : Caches). (work k c).caches) h.caches;
-    clock = ap₂ (λ (c : Caches) (t : ℕ). max (t + (work k c).cost) (start on.all.schedule k)) h.caches h.clock;
+  -- as slot k begins
+  abbrev before : ℕ → World
+  before k = switch_by g i k (whole_by g i k)
+
+  ended_if : (b : Bool) (k : ℕ) (w v : World) → (b ≡ false → ended_of 0 w ≡ ended_of 0 v)
+      → (if b then last_end i.all.schedule k else ended_of 0 w) ≡ (if b then last_end i.all.schedule k else ended_of 0 v)
+  ended_if true k w v h = refl
+  ended_if false k w v h = h refl
+
+  abbrev work : ℕ → Caches → Touched
+  work k c = switch_work_by g i (outgoing i.all.schedule k) (its k) c
+
+  switch_same : (k : ℕ) (w : World) → Between k w → SameWorld (before k) (switch_by g i k w)
+  unfolding switch_by switch_on with_hart at put
+  switch_same k w h = record {
+    doms = h.same.doms;
+    storage = h.same.storage;
+    caches = ap (λ (c : Caches). (work k c).caches) h.same.caches;
+    clock = ap₂ (λ (c : Caches) (t : ℕ). begins_by g i k (t + (work k c).cost)) h.same.caches h.same.clock;
     used =
-        ap₂ (λ (us : List (ℕ × ℕ)) (u : ℕ × ℕ). us ++ u ∷ []) h.used
-        (ap₂ (λ (e n : ℕ). (e, n)) (sym (place_is (switch_entry on.all.schedule k) (entry_there i r 0 is k)))
-        (ap₂ (λ (c : Caches) (t : ℕ). (t + (work k c).cost) - last_end on.all.schedule k) h.caches h.clock));
+        ap₂ (λ (us : List (ℕ × ℕ)) (n : ℕ). us ++ (switch_entry i.all.schedule k, n) ∷ []) h.same.used
+        (ap₂ (λ (done ended : ℕ). done - ended)
+        (ap₂ (λ (c : Caches) (t : ℕ). t + (work k c).cost) h.same.caches h.same.clock)
+        (ended_if g.pad k (whole_by g i k) w h.ended));
   }
 
-  -- ---- where the one is, beside where the other is: after its last slot, or so many steps into the next
+  -- ---- in a slot
+
+  abbrev slot : ℕ → ℕ → World → World
+  slot k end w = slot_if g.irq g i (its k) end w
+
+  -- when it ends, as it begins
+  abbrev its_end : ℕ → ℕ
+  its_end k = ends_by g i k (clock_of 0 (before k))
+
+  -- what is left of it leads where all of it leads
+  record Left (k : ℕ) (w : World) : Type 0 where
+    end : its_end k ≡ end_of k w
+    rest : SameWorld (slot k (its_end k) (before k)) (slot k (its_end k) w)
+
+  ending_same : (b : Bool) (k : ℕ) (w : World) → SameWorld w (ending_in i b k w)
+  ending_same true k w = same_refl w
+  ending_same false k w = same_sym (with_end 0 w (ends_by g i k (clock_of 0 w))) w (same_end w (ends_by g i k (clock_of 0 w)))
+
+  ends_so : (b : Bool) (k : ℕ) (w : World) → SameWorld (before k) w → g.pad ≡ b
+      → its_end k ≡ end_in i b k (ending_in i b k w)
+  unfolding with_end at put
+  ends_so true k w h t = ap (λ (b : Bool). if b then slot_end i.all.schedule k else clock_of 0 (before k) + (entry_of_slot i.all.schedule k).length) t
+  ends_so false k w h t = ap (ends_by g i k) h.clock
+
+  begun_left : (k : ℕ) (w : World) → Between k w → Left k (begun k w)
+  begun_left k w h =
+      let now = switch_by g i k w in
+      let same = switch_same k w h in
+      record {
+        end = ends_so g.pad k now same refl;
+        rest = slot_same i all g (its k) (its_end k) g.irq (before k) (begun k w)
+            (same_trans (before k) now (begun k w) same (ending_same g.pad k now));
+      }
+
+  end_stays : (b : Bool) (k : ℕ) (w v : World) → ended_of 0 w ≡ ended_of 0 v → end_in i b k w ≡ end_in i b k v
+  end_stays true k w v h = refl
+  end_stays false k w v h = h
+
+  event_left : (k : ℕ) (w : World) → clock_of 0 w < end_of k w → Left k w → Left k (event k w)
+  unfolding event
+  event_left k w below h =
+      let end = its_end k in
+      let stays = end_stays g.pad k w (event k w) (sym (event_end i all g (its k) (end_of k w) g.irq w)) in
+      record {
+        end = h.end ∙ stays;
+        rest =
+            same_trans _ (slot k end w) _ h.rest
+            (subst (λ (e : ℕ). SameWorld (slot k end w) (slot k end (event_if g.irq g i 0 (its k) e w))) h.end
+            (slot_more i all g (its k) end g.irq w (subst (λ (e : ℕ). clock_of 0 w < e) (sym h.end) below)));
+      }
+
+  whole_ended : (k : ℕ) → ended_of 0 (whole_by g i (suc k)) ≡ its_end k
+  unfolding whole_by run_slot_by with_end at put
+  whole_ended k = refl
+
+  end_noted : (b : Bool) (k : ℕ) (w : World) → b ≡ false → end_in i b k w ≡ ended_of 0 w
+  end_noted true k w t = cc
+  end_noted false k w t = refl
+
+  over_between : (k : ℕ) (w : World) → its_end k ≤ clock_of 0 w → Left k w → Between (suc k) w
+  unfolding whole_by run_slot_by
+  over_between k w over h =
+      let end = its_end k in
+      let all_of_it = slot k end (before k) in
+      record {
+        same =
+            same_trans _ all_of_it w (same_end all_of_it end)
+            (same_trans all_of_it (slot k end w) w h.rest (slot_done i all g (its k) end g.irq w over));
+        ended = λ t. whole_ended k ∙ h.end ∙ end_noted g.pad k w t;
+      }
+
+  -- ---- the one is where the other is
 
   FollowsIf : Bool → ℕ → World → Type 0
-  FollowsIf true k w = (m : ℕ) × SameWorld (world_in on k m) w
-  FollowsIf false k w = SameWorld (whole on k) w
+  FollowsIf true k w = Left k w × (clock_of 0 w < end_of k w)
+  FollowsIf false k w = Between k w
 
   Follows : Harts → Type 0
   Follows s = FollowsIf (progress_of 0 s).inside (slots_of 0 s) s.world
@@ -163,106 +393,58 @@ module _ (i : Image) (r : Runnable i) (one : IsOnOneHart i) where
   unfolding proceeds Follows
   proceeds_so s w k b h = subst (λ (x : Progress). FollowsIf x.inside x.slots w) (sym (progress-same 0 s w k b)) h
 
-  first_so : Follows (harts i [])
-  unfolding Follows FollowsIf harts after whole_by opening with_hart at put
+  settles_if : (b : Bool) (s : Harts) (w : World) (k : ℕ) → Left k w → ltb (clock_of 0 w) (end_of k w) ≡ b
+      → Follows (if b then proceeds 0 s w k true else proceeds 0 s w (suc k) false)
+  unfolding FollowsIf
+  settles_if true s w k h t = proceeds_so s w k true (h, ltb-true _ _ t)
+  settles_if false s w k h t =
+      proceeds_so s w (suc k) false
+      (over_between k w (subst (λ (e : ℕ). e ≤ clock_of 0 w) (sym h.end) (ltb-false _ _ t)) h)
+
+  settles_so : (s : Harts) (w : World) (k end : ℕ) → Left k w → end ≡ end_of k w → Follows (settles 0 s w k end)
+  unfolding settles
+  settles_so s w k end h is =
+      subst (λ (e : ℕ). Follows (settles 0 s w k e)) (sym is) (settles_if (ltb (clock_of 0 w) (end_of k w)) s w k h refl)
+
+  first_so : Follows (harts_by off i [])
+  unfolding Follows FollowsIf harts_by after_by whole_by opening all_cold
   first_so =
-      let many = harts_in i.all.schedule in
-      let w = (harts i []).world in
-      let cold_here = all_cold_are i many 0 is in
-      let same : SameWorld (opening on) w = record {
-        doms = λ d. ap (λ (t : Table Dom). at no_dom t d) (sym (doms_cold i many));
-        storage = sym (storage_cold i many);
-        caches = sym cold_here.caches;
-        clock = sym cold_here.clock;
-        used = sym (used_cold i many);
-      } in
-      subst (λ (x : Progress). FollowsIf x.inside x.slots w) (sym (at_first i r 0)) same
+      subst (λ (x : Progress). FollowsIf x.inside x.slots (all_cold i (harts_in i.all.schedule)))
+      (sym (at-empty (record { slots = 0; inside = false }) 0))
+      (subst (λ (n : ℕ). Between 0 (all_cold i n)) (sym one) (record { same = same_refl (opening i); ended = λ t. refl }))
 
-  module _ (s : Harts) (was : Running i r s) where
-    abbrev k : ℕ
-    k = slots_of 0 s
+  next_if : (b : Bool) (s : Harts) → FollowsIf b (slots_of 0 s) s.world
+      → Follows (if b then goes_on off i 0 s else begins off i 0 s)
+  unfolding FollowsIf event
+  next_if true s h =
+      let k = slots_of 0 s in
+      let stays = end_stays g.pad k s.world (event k s.world) (sym (event_end i all g (its k) (end_of k s.world) g.irq s.world)) in
+      subst Follows (sym (goes_one s))
+      (settles_so s (event k s.world) k (end_of k s.world) (event_left k s.world h.1 h.0) stays)
+  next_if false s h =
+      let k = slots_of 0 s in
+      subst Follows (sym (begins_one s))
+      (settles_so s (begun k s.world) k (end_of k (begun k s.world)) (begun_left k s.world h) refl)
 
-    abbrev d : ℕ
-    d = domain_in i 0 k
+  next_so : (s : Harts) → Follows s → Follows (next_by off i 0 s)
+  unfolding Follows next_by
+  next_so s h = next_if (progress_of 0 s).inside s h
 
-    -- as the slot begins
-    abbrev begun : World
-    begun = switch on k (whole on k)
+  after_so : (order : List ℕ) (s : Harts) → All (λ h. h < harts_in i.all.schedule) order → Follows s
+      → Follows (after_by off i order s)
+  unfolding after_by
+  after_so [] s below h = h
+  after_so (x ∷ xs) s below h =
+      let here = All-head (λ (n : ℕ). n < harts_in i.all.schedule) x xs below in
+      after_so xs (next_by off i x s) (All-tail (λ (n : ℕ). n < harts_in i.all.schedule) x xs below)
+      (subst (λ (n : ℕ). Follows (next_by off i n s)) (omega (arith, here, one)) (next_so s h))
 
-    begins_so : FollowsIf false k s.world → Follows (begins i 0 s)
-    unfolding FollowsIf begins steps
-    begins_so h =
-        proceeds_so s (begun_world i 0 s) k true
-        (0, same_trans (world_in on k 0) begun (begun_world i 0 s) (same_put begun d) (switched_same k (whole on k) s.world h))
-
-    -- in the slot
-    module _ (within : (progress_of 0 s).inside ≡ true) (m : ℕ) (h : SameWorld (world_in on k m) s.world) where
-      abbrev ran : World
-      ran = runs i 0 k s.world
-
-      soon : clock_of 0 s.world < end_on i 0 k
-      soon = (subst (λ (b : Bool). IsHart i b 0 k s.world) within (was.hart 0 is)).soon
-
-      here : local_in on k m ≡ part_of 0 d s.world
-      here = sym (part-with 0 d begun (local_in on k m)) ∙ part_is (world_in on k m) s.world d h
-
-      stepped : local_in on k (suc m) ≡ step (setting i.all.hardware (own_of i d) false) (end_on i 0 k) (part_of 0 d s.world)
-      stepped =
-          let at = ap (λ (x : Local). x.clock) here in
-          sym (next_step (setting i.all.hardware (own_of i d) false) r_on.timed (end_on i 0 k) m (part_of 0 d begun) (omega (arith, soon, at)))
-          ∙ ap (step (setting i.all.hardware (own_of i d) false) (end_on i 0 k)) here
-
-      ran_same : SameWorld (world_in on k (suc m)) ran
-      unfolding runs
-      ran_same =
-          same_trans (world_in on k (suc m)) (with_part 0 d (world_in on k m) (local_in on k (suc m))) ran
-          (same_twice begun d (local_in on k m) (local_in on k (suc m)))
-          (same_part (world_in on k m) s.world d (local_in on k (suc m)) _ h stepped)
-
-      -- after the last of its steps
-      over_same : end_on i 0 k ≤ clock_of 0 ran → SameWorld (whole on (suc k)) ran
-      unfolding whole_by run_slot_by own_slot guarded
-      over_same over =
-          let at = ran_same.clock in
-          let clock = ap (λ (x : Local). x.clock) (part-with 0 d begun (local_in on k (suc m))) in
-          let all = all_steps (setting i.all.hardware (own_of i d) false) r_on.timed (end_on i 0 k) (suc m) (part_of 0 d begun)
-          (omega (arith, over, at, clock)) in
-          let slot = with_part 0 d begun (stretch (setting i.all.hardware (own_of i d) false) (end_on i 0 k) (part_of 0 d begun)) in
-          same_trans _ slot ran (same_end slot (end_on i 0 k))
-          (same_trans slot (world_in on k (suc m)) ran
-          (same_part begun begun d _ (local_in on k (suc m))
-          (record { doms = λ e. refl; storage = refl; caches = refl; clock = refl; used = refl }) all)
-          ran_same)
-
-      goes_if : (b : Bool) → ltb (clock_of 0 ran) (end_on i 0 k) ≡ b
-          → Follows (if b then proceeds 0 s ran k true else proceeds 0 s ran (suc k) false)
-      unfolding FollowsIf
-      goes_if true t = proceeds_so s ran k true (suc m, ran_same)
-      goes_if false t = proceeds_so s ran (suc k) false (over_same (ltb-false _ _ t))
-
-      goes_so : Follows (goes_on i 0 s)
-      unfolding goes_on
-      goes_so = goes_if (ltb (clock_of 0 ran) (end_on i 0 k)) refl
-
-    next_if : (b : Bool) → (progress_of 0 s).inside ≡ b → FollowsIf b k s.world
-        → Follows (if b then goes_on i 0 s else begins i 0 s)
-    unfolding FollowsIf
-    next_if true t h = goes_so t h.0 h.1
-    next_if false t h = begins_so h
-
-    next_so : Follows s → Follows (next i 0 s)
-    unfolding Follows next
-    next_so h = next_if (progress_of 0 s).inside refl h
-
-  follows : (order : List ℕ) → AreHartsOf i order → Follows (harts i order)
-  follows order below =
-      always i r Follows
-      (λ h below s was holds. subst (λ (x : ℕ). Follows (next i x s)) (omega (arith, below, one)) (next_so s was holds))
-      first_so order below
+  follows : (order : List ℕ) → AreHartsOf i order → Follows (harts_by off i order)
+  unfolding harts_by after_by
+  follows order below = after_so order (harts_by off i []) below first_so
 
 pub whole_law : WholeLaw
 unfolding Follows FollowsIf
-whole_law i order r one below outside =
-    let s = harts i order in
-    subst (λ (x : Image). SameWorld (whole x (slots_of 0 s)) s.world) (on_is i r one)
-    (subst (λ (b : Bool). FollowsIf i r one b (slots_of 0 s) s.world) outside (follows i r one order below))
+whole_law off i order r one below outside =
+    let s = harts_by off i order in
+    (subst (λ (b : Bool). FollowsIf off i r one b (slots_of 0 s) s.world) outside (follows off i r one order below)).same

@@ -69,7 +69,7 @@ both false x z y f = refl
 
 module _ (i : Image) (r : Separated i) (g : Guards) (d end : ℕ) where
   later_if : (w : World) (o : Option Owned) → clock_of 0 w < end
-      → clock_of 0 w < clock_of 0 (delivered_or_step g i d end w o)
+      → clock_of 0 w < clock_of 0 (delivered_or_step g i 0 d end w o)
   unfolding with_part with_hart at put delivered
   later_if w None h = step_later (setting_by g i d) r.timed end (part_of 0 d w) h
   later_if w (Some x) h =
@@ -78,12 +78,12 @@ module _ (i : Image) (r : Separated i) (g : Guards) (d end : ℕ) where
       omega (arith, takes, trap)
 
   -- each step moves the clock on
-  pub among_later : (w : World) → clock_of 0 w < end → clock_of 0 w < clock_of 0 (step_among g i d end w)
+  pub among_later : (w : World) → clock_of 0 w < end → clock_of 0 w < clock_of 0 (step_among g i 0 d end w)
   unfolding step_among
-  among_later w h = later_if w (if is_running (dom_of w d).status then first_due i w (length i.owns) else None) h
+  among_later w h = later_if w (if is_running (dom_of w d).status then first_due i 0 w (length i.owns) else None) h
 
   enough : (n m : ℕ) (w : World) → end - clock_of 0 w ≤ n → end - clock_of 0 w ≤ m
-      → steps_among g i d end n w ≡ steps_among g i d end m w
+      → steps_among g i 0 d end n w ≡ steps_among g i 0 d end m w
   unfolding steps_among
   enough zero zero w h k = refl
   enough zero (suc m) w h k = sym (stops (ltb (clock_of 0 w) end) _ w (le-ltb (clock_of 0 w) end (omega arith)))
@@ -92,21 +92,21 @@ module _ (i : Image) (r : Separated i) (g : Guards) (d end : ℕ) where
       both (ltb (clock_of 0 w) end) _ _ w
       (λ e.
       let later = among_later w (ltb-true (clock_of 0 w) end e) in
-      enough n m (step_among g i d end w) (omega arith) (omega arith))
+      enough n m (step_among g i 0 d end w) (omega arith) (omega arith))
 
   one_more : (n : ℕ) (w : World) → clock_of 0 w < end
-      → steps_among g i d end (suc n) w ≡ steps_among g i d end n (step_among g i d end w)
+      → steps_among g i 0 d end (suc n) w ≡ steps_among g i 0 d end n (step_among g i 0 d end w)
   unfolding steps_among
   one_more n w h = goes (ltb (clock_of 0 w) end) _ w (lt-ltb (clock_of 0 w) end h)
 
   -- a slot is one step and then the rest of it
   pub open_step : (w : World) → clock_of 0 w < end
-      → open_slot g i d end w ≡ open_slot g i d end (step_among g i d end w)
+      → open_slot g i d end w ≡ open_slot g i d end (step_among g i 0 d end w)
   open_step w h =
       let later = among_later w h in
       enough (end - clock_of 0 w) (suc (end - clock_of 0 w)) w (omega arith) (omega arith)
       ∙ one_more (end - clock_of 0 w) w h
-      ∙ enough (end - clock_of 0 w) (end - clock_of 0 (step_among g i d end w)) (step_among g i d end w) (omega arith) (omega arith)
+      ∙ enough (end - clock_of 0 w) (end - clock_of 0 (step_among g i 0 d end w)) (step_among g i 0 d end w) (omega arith) (omega arith)
 
   pub open_done : (w : World) → end ≤ clock_of 0 w → open_slot g i d end w ≡ w
   unfolding steps_among

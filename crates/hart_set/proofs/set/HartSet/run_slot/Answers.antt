@@ -3,6 +3,7 @@ use Rattle.std.specs.Prelude.{slice_get, slice_index_or}
 use Rattle.image_record.specs.Record.{Raw}
 use Rattle.sched_table.specs.Schedule.{harts_in}
 use Rattle.image_check.specs.Image.{image_from}
+use Rattle.image_check.specs.Laws.{Runnable}
 use Rattle.hart_orders.specs.declared.hart.Slot.{Slot}
 use Rattle.hart_set.specs.declared.set.State.{State}
 use Rattle.hart_set.specs.Models.{image_of}
@@ -80,7 +81,8 @@ returns-clause-ends c =
           subst (λ (image : Raw). SlotEnds (image_from image) h begun.1 last)
           w.begin-slot.ensures.image (subst Ends w.self-is ends) in
           let begins = subst (λ (n : ℕ). NextStands (image_of v) n v.1 begun.1) c.from-at.ensures w.begin-slot.ensures.next in
-          through_begun (image_of v) v.1 begun.1 last h c.index.result.now c.requires.hart (found c) w.in-None.is begins rest
+          let runnable = subst (λ (u : Raw × State). Runnable (image_of u)) c.self.view_is c.self.invariant.accepted in
+          through_begun (image_of v) runnable v.1 begun.1 last h c.index.result.now c.requires.hart (found c) w.in-None.is begins rest
     ]
 
 pub returns-clause-image : goal.returns-clause-image
