@@ -14,8 +14,9 @@ from conftest import REPOSITORY, SDK, stored_picture
 
 import tp_sdk
 from tp_sdk import Fault, Image, Missing, Refused, Report, capacity, entropy, picture, run
+from tp_sdk.guards import GUARDS
 from tp_sdk.program import Program
-from tp_sdk.report import GUARDS, Difference
+from tp_sdk.report import Difference
 
 EXAMPLES = REPOSITORY / "examples"
 LINES = EXAMPLES / "channels" / "lines"

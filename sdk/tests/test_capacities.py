@@ -18,8 +18,9 @@ from test_tables import table_with
 from tp_sdk.build import build_text, load_programs, set_words
 from tp_sdk.description import read_description
 from tp_sdk.elf import Loaded
+from tp_sdk.guards import GUARDS
 from tp_sdk.program import Program
-from tp_sdk.report import GUARDS, Section, parse_report
+from tp_sdk.report import Section, parse_report
 
 EXAMPLES = REPOSITORY / "examples"
 WORKLOADS = EXAMPLES / "workloads"

@@ -11,9 +11,10 @@ from conftest import REPOSITORY, SDK, run_tool, stored_picture
 from test_tables import table_with
 
 from tp_sdk.faults import Fault
+from tp_sdk.guards import GUARDS
 from tp_sdk.information import entropy
 from tp_sdk.program import Program
-from tp_sdk.report import GUARDS, parse_report
+from tp_sdk.report import parse_report
 
 CHANNELS = REPOSITORY / "examples" / "channels"
 SECRETS = [f"secret-{number}" for number in range(8)]

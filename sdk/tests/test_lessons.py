@@ -12,8 +12,8 @@ from typing import Any
 import pytest
 from conftest import REPOSITORY
 
+from tp_sdk.guards import GUARDS
 from tp_sdk.program import VARIABLE, Program
-from tp_sdk.report import GUARDS
 
 LESSONS = REPOSITORY / "docs" / "lessons"
 NOTEBOOK = LESSONS / "six-guards.ipynb"

@@ -313,18 +313,6 @@ def test_json_lines_are_resumed_too(answers: Path, tmp_path: Path) -> None:
     assert out.read_text() == before and runs_in(answers) == 4
 
 
-def test_parquet_is_there_with_its_library(answers: Path, tmp_path: Path) -> None:
-    out = tmp_path / "a.parquet"
-    ended = run_tool("tp-sweep", VICTIM, "--slots", "1", "-o", out, "--vary", "machine.costs.mem=40,41")
-    try:
-        import pyarrow.parquet
-    except ImportError:
-        assert ended.returncode == 3 and "has no pyarrow" in ended.stderr
-        return
-    assert ended.returncode == 0
-    assert pyarrow.parquet.read_table(out).num_rows == 4
-
-
 # ---- one compiler, few processes
 
 

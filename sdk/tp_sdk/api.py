@@ -13,9 +13,10 @@ from typing import Any
 from tp_sdk.build import refuse_broken, refuse_described
 from tp_sdk.description import Description, read_description
 from tp_sdk.faults import Fault, read_text
+from tp_sdk.guards import GUARDS
 from tp_sdk.images import is_described, values_of
 from tp_sdk.program import Program
-from tp_sdk.report import GUARDS, Report, parse_report
+from tp_sdk.report import Report, parse_report
 from tp_sdk.running import with_end, words_for, written
 from tp_sdk.schedule import domain_names, entries_of, harts_in
 from tp_sdk.spelling import did_you_mean

@@ -4,11 +4,14 @@ from __future__ import annotations
 
 import re
 from dataclasses import dataclass
+from typing import TYPE_CHECKING
 
 from tp_sdk import keys
 from tp_sdk.calls import CALLS, EVERY_CALL
-from tp_sdk.refusals import Image
 from tp_sdk.schedule import domain_names
+
+if TYPE_CHECKING:
+    from tp_sdk.refusals import Image
 
 OPERATION = "operation"
 PARTS = ("instruction", OPERATION, "leave", "prefetch", "flush", "enter")

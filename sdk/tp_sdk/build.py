@@ -4,19 +4,21 @@ from __future__ import annotations
 
 import re
 from pathlib import Path
+from typing import TYPE_CHECKING
 
 from tp_sdk.bounds import parse_bound
 from tp_sdk.compiling import load_program
 from tp_sdk.description import Description, DomainDescription, EntryDescription
 from tp_sdk.elf import Loaded, Segment
-from tp_sdk.explain import Explanation, explain
 from tp_sdk.faults import Fault, Missing, Refused
 from tp_sdk.image import Image, ImageDomain, ImageEntry
 from tp_sdk.keys import KEY_ROWS, PAGE, Array
 from tp_sdk.program import Ended, Program
-from tp_sdk.refusals import Refusal
 from tp_sdk.spelling import did_you_mean
 from tp_sdk.values import PLACE, integer_of, parse_moments, parse_setting
+
+if TYPE_CHECKING:
+    from tp_sdk.explain import Explanation
 
 STACK, STACK_TOP = "stack", "__stack_top"
 
@@ -124,7 +126,16 @@ def _broken(text: str, file: Path, ended: Ended) -> Explanation | None:
         return None
     if not is_refusal(ended):
         raise Fault(f"{file}: the program ended with {ended.code}: {ended.text.strip()}")
-    return explain(text.encode(), str(file), Refusal.parse(ended.text))
+    return explanation_of(text, str(file), ended)
+
+
+def explanation_of(text: str, file: str, ended: Ended) -> Explanation:
+    """What a refusal of an image's text tells."""
+    # (loaded as an image is refused: the rules and their words are many)
+    from tp_sdk.explain import explain
+    from tp_sdk.refusals import Refusal
+
+    return explain(text.encode(), file, Refusal.parse(ended.text))
 
 
 def is_refusal(ended: Ended) -> bool:

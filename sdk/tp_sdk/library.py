@@ -8,11 +8,12 @@ from collections.abc import Callable
 from functools import cache, partial
 from pathlib import Path
 
+from tp_sdk.guards import GUARDS
+
 BUILT = Path("lib") / "out" / "libtp.so"
 TOO_SMALL = 7
 GREATEST = 2**32 - 1
 FEW_SLOTS = 256
-GUARDS = ["flush", "prefetch", "pad", "colour", "clone", "irq"]
 
 # Each command with its options, in the order of its call's values, and whether it reads an image.
 CALLS: dict[str, tuple[list[str], bool]] = {

@@ -62,21 +62,23 @@ class Program:
         answered = library.answer(self.shared, words, image) if self.shared else None
         if answered:
             return Ended(*answered)
-        pipe = subprocess.PIPE
+        pipe, none = subprocess.PIPE, subprocess.DEVNULL
         try:
-            with subprocess.Popen([self.path, *words], stdin=pipe, stdout=pipe, stderr=pipe) as process:
+            with subprocess.Popen([self.path, *words], stdin=pipe, stdout=pipe, stderr=none) as process:
                 text = self._written(process, image.encode())
             return Ended(process.returncode, text.decode())
         except (OSError, UnicodeDecodeError):
             raise self.other() from None
 
     def _written(self, process: subprocess.Popen[bytes], image: bytes) -> bytes:
-        """What a run writes; meanwhile it is told that time passes."""
+        """What a run writes; meanwhile it is told that time passes, where somebody sees it."""
         given: bytes | None = image
+        # (a wait that ends by itself takes longer: it looks now and then whether the process has ended)
+        patience = SHOWN_FROM if self.progress.is_shown else None
         try:
             while True:
                 try:
-                    text, _ = process.communicate(given, timeout=SHOWN_FROM)
+                    text, _ = process.communicate(given, timeout=patience)
                     self.progress.end()
                     return text
                 except subprocess.TimeoutExpired:

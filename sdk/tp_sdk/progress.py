@@ -17,6 +17,11 @@ class Progress:
     def __init__(self, bar: Any = None) -> None:
         self._bar = bar
 
+    @property
+    def is_shown(self) -> bool:
+        """Somebody sees it."""
+        return self._bar is not None
+
     def wait(self) -> None:
         """One run has taken so long, and is not over."""
         if self._bar is not None:
@@ -31,11 +36,18 @@ class Progress:
 @contextmanager
 def progress(tool: str) -> Iterator[Progress]:
     """The progress of a tool, told where standard error is a terminal and there is a library for it."""
+    bar = _bar(tool) if sys.stderr.isatty() else None
+    if bar is None:
+        yield Progress()
+        return
+    with bar:
+        yield Progress(bar)
+
+
+def _bar(tool: str) -> Any:
+    """The library's bar, or none."""
     try:
         from tqdm import tqdm
     except ImportError:
-        yield Progress()
-        return
-    is_shown = sys.stderr.isatty()
-    with tqdm(desc=tool, bar_format=_WORDS, disable=not is_shown, leave=False, delay=SHOWN_FROM) as bar:
-        yield Progress(bar)
+        return None
+    return tqdm(desc=tool, bar_format=_WORDS, leave=False, delay=SHOWN_FROM)

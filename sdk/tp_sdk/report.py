@@ -4,15 +4,14 @@ from __future__ import annotations
 
 import re
 from collections.abc import Iterator
-from contextlib import contextmanager
 from dataclasses import dataclass, field
 from itertools import zip_longest
 from pathlib import Path
 
 from tp_sdk.faults import Fault, read_text
+from tp_sdk.outline import BROKEN, Switch, no_part, outline_of, switch_of
 
 MOST_READING = 0xFFFF_FFFF
-GUARDS = ("flush", "prefetch", "pad", "colour", "clone", "irq")
 
 _STATUS = re.compile(r"running|exited \d+|stopped \d+ pc [0-9a-f]{8} value [0-9a-f]{8}")
 
@@ -78,20 +77,6 @@ class Section:
         if words[0] != "stopped":
             return None
         return Stop(int(words[1]), int(words[3], 16), int(words[5], 16))
-
-
-@dataclass(frozen=True)
-class Switch:
-    """The line of an entry's switches, and its number."""
-
-    entry: int
-    used: int
-    pad: int
-    count: int
-    line: int = 0
-
-    def __str__(self) -> str:
-        return f"switch {self.entry} used {self.used} pad {self.pad} count {self.count}"
 
 
 @dataclass(frozen=True)
@@ -193,71 +178,18 @@ def _pairs(
         yield of, here.get(of, []), there.get(of, [])
 
 
-@dataclass(frozen=True)
-class Outline:
-    """A report's parts, each with the number of its first line before it: of each domain its lines, of each
-    switch its line."""
-
-    off: str | None
-    sections: list[tuple[int, list[str]]]
-    switches: list[tuple[int, str]]
-
-    def lines_of(self, domain: str) -> list[str]:
-        """The lines of a domain's section, by its name."""
-        return next(lines for _, lines in self.sections if lines[0].split()[2] == domain)
-
-
-def outline_of(text: str, file: str) -> Outline:
-    """Takes a report apart; `file` is named where it is none."""
-    lines = text.splitlines()
-    if not lines or lines[-1] != "end":
-        told = f": the program's answer is '{lines[0]}'" if lines and lines[0].startswith("refused ") else ""
-        raise Fault(f"{file}: no report, which ends with the line 'end'{told}")
-    outline = Outline(_off(lines[0], file), [], [])
-    starts = [number for number, line in enumerate(lines) if line.startswith(("domain ", "switch ", "end"))]
-    for start, after in zip(starts, starts[1:]):
-        if lines[start].startswith("domain "):
-            outline.sections.append((start + 1, lines[start:after]))
-        else:
-            outline.switches.append((start + 1, lines[start]))
-    return outline
-
-
 def parse_report(text: str, file: str) -> Report:
     """Reads a report; `file` is named where it is none."""
     outline = outline_of(text, file)
     report = Report(off=outline.off, text=text)
     for at, lines in outline.sections:
-        with _no_part(file, at):
+        try:
             report.sections.append(_section(lines, at))
+        except BROKEN:
+            raise no_part(file, at) from None
     for at, line in outline.switches:
         report.switches.append(switch_of(line, at, file))
     return report
-
-
-def switch_of(line: str, at: int, file: str) -> Switch:
-    """Reads the line of an entry's switches, which is line `at` of a file."""
-    with _no_part(file, at):
-        return _switch(line, at)
-
-
-@contextmanager
-def _no_part(file: str, at: int) -> Iterator[None]:
-    """Tells a line that isn't what it should be."""
-    try:
-        yield
-    except (ValueError, IndexError, KeyError):
-        raise Fault(f"{file}:{at}: no section of a report begins here") from None
-
-
-def _off(line: str, file: str) -> str | None:
-    """The guard of a first line `unprotected GUARD`."""
-    if not line.startswith("unprotected"):
-        return None
-    guard = line.removeprefix("unprotected ")
-    if guard not in GUARDS:
-        raise Fault(f"{file}:1: '{line}' names no guard: unprotected {', '.join(GUARDS)}")
-    return guard
 
 
 def _section(lines: list[str], at: int) -> Section:
@@ -304,12 +236,3 @@ def _thread(line: str) -> Thread:
 def _reply(text: str) -> Reply:
     code, value = text.split(":")
     return Reply(int(code), int(value))
-
-
-def _switch(line: str, at: int) -> Switch:
-    words = line.split()
-    named = dict(zip(words[::2], words[1::2]))
-    entry, used, pad, count = (int(named[key]) for key in ("switch", "used", "pad", "count"))
-    if min(entry, used, pad, count) < 0:
-        raise ValueError("no switch")
-    return Switch(entry, used, pad, count, at)

@@ -4,7 +4,7 @@ from __future__ import annotations
 
 from typing import Any
 
-from tp_sdk.report import GUARDS
+from tp_sdk.guards import GUARDS
 
 Schema = dict[str, Any]
 

@@ -4,11 +4,14 @@ from __future__ import annotations
 
 from collections.abc import Iterator, Sequence
 from dataclasses import dataclass
+from typing import TYPE_CHECKING
 
 from tp_sdk.faults import Fault
 from tp_sdk.keys import HART, hart_of
-from tp_sdk.refusals import Image
-from tp_sdk.report import Report
+
+if TYPE_CHECKING:
+    from tp_sdk.refusals import Image
+    from tp_sdk.report import Report
 
 
 @dataclass(frozen=True)

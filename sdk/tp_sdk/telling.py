@@ -10,7 +10,8 @@ from tp_sdk.calls import BAD_CALL, CALLS, EVERY_CALL, PUT, callers_of, error_of,
 from tp_sdk.differences import Differences
 from tp_sdk.elf import Loaded
 from tp_sdk.known import Known
-from tp_sdk.report import Report, Section, Stop, Switch, Thread
+from tp_sdk.outline import Switch
+from tp_sdk.report import Report, Section, Stop, Thread
 from tp_sdk.stops import NAMES, Overflow, overflow_of, value_in_words
 from tp_sdk.symbols import Place, Symbols
 

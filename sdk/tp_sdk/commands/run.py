@@ -12,10 +12,11 @@ from tp_sdk.build import build_text, domain_of, load_programs, set_words
 from tp_sdk.description import Description, describe, read_description
 from tp_sdk.faults import EXIT_CODES, INPUT_AT_FAULT, STANDARD, Fault, read_bytes, write_bytes
 from tp_sdk.folders import C
+from tp_sdk.guards import GUARDS
 from tp_sdk.known import known_of
 from tp_sdk.program import Program
 from tp_sdk.progress import progress
-from tp_sdk.report import GUARDS, parse_report
+from tp_sdk.report import parse_report
 from tp_sdk.running import with_end, words_for, written
 from tp_sdk.telling import Telling
 from tp_sdk.words import SEED, number_within, slots_from

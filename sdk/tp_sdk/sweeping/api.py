@@ -123,13 +123,13 @@ def swept(
 
 
 def _workers(
-    plan: Plan, program: Program, jobs: int | None, scheduler: str | None, runs: int
+    plan: Plan, program: Program, jobs: int | None, scheduler: str | None, left: int
 ) -> AbstractContextManager[Work]:
-    if scheduler is not None and runs > 0:
+    if scheduler is not None and left > 0:
         from tp_sdk.sweeping.cluster import on_a_cluster
 
-        return on_a_cluster(plan, program, scheduler)
-    return on_this_machine(plan, program, max(1, min(jobs or processors(), runs)))
+        return on_a_cluster(plan, program, scheduler, left)
+    return on_this_machine(plan, program, jobs or processors(), left)
 
 
 def _named(where: str, values: str | Iterable[Value]) -> tuple[str, tuple[str, Values]]:

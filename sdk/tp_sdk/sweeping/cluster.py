@@ -28,8 +28,8 @@ _PATIENCE = 10  # seconds in which a scheduler answers, and in which there is a 
 
 
 @contextmanager
-def on_a_cluster(plan: Plan, program: Program, scheduler: str) -> Iterator[Work]:
-    """What does the runs on a cluster's workers. Of a worker that ends, others do the runs again."""
+def on_a_cluster(plan: Plan, program: Program, scheduler: str, left: int) -> Iterator[Work]:
+    """What does the runs, of which there are `left`, on a cluster's workers. Of a worker that ends, others do the runs again."""
     with _client(scheduler) as client:
         with _told_as_faults(scheduler):
             client.wait_for_workers(1, timeout=_PATIENCE)
@@ -45,7 +45,7 @@ def on_a_cluster(plan: Plan, program: Program, scheduler: str) -> Iterator[Work]
 
         def work(runs: Iterator[Run]) -> Iterator[Any]:
             with _told_as_faults(scheduler):
-                yield from drive(submit, watch.threads, runs, watch.look)
+                yield from drive(submit, watch.threads, runs, left, watch.look)
 
         yield work
 

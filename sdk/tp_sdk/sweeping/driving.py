@@ -2,6 +2,7 @@
 
 from __future__ import annotations
 
+import gc
 import multiprocessing
 import os
 import signal
@@ -10,16 +11,18 @@ from concurrent.futures import FIRST_COMPLETED, Executor, Future, ProcessPoolExe
 from concurrent.futures.process import BrokenProcessPool
 from contextlib import contextmanager
 from itertools import islice
+from math import inf
 
 from tp_sdk.faults import Fault
 from tp_sdk.program import Program
 from tp_sdk.sweeping.plan import Plan, Run
 from tp_sdk.sweeping.running import Chunk, Ran, Runner
 
-# A worker is given as many runs at once as take about so long: not so few that it waits for words, and
-# not so many that much is lost when it ends.
-_SECONDS = 0.25
+# A worker is given as many runs at once as take so long, in seconds: not so few that it waits for words, and
+# not so many that much is lost when it ends. The fewer are left, the fewer at once: so all end together.
+_LEAST_SECONDS, _MOST_SECONDS = 0.01, 0.25
 _MOST_AT_ONCE = 64
+_PARTS = 3  # a worker is given its share of what is left in so many parts at least
 _LOOK = 1.0  # seconds: so long it waits before it looks after the workers
 _AHEAD = 2  # so many chunks a worker are asked for before they are done
 
@@ -30,39 +33,46 @@ Work = Callable[[Iterator[Run]], Iterator[Ran]]
 
 
 def drive(
-    submit: Submit, workers: Callable[[], int], runs: Iterator[Run], look: Callable[[], None] = lambda: None
+    submit: Submit,
+    workers: Callable[[], int],
+    runs: Iterator[Run],
+    left: int,
+    look: Callable[[], None] = lambda: None,
 ) -> Iterator[Ran]:
-    """Gives all runs to workers, and yields each as it is done; looks after the workers while none is."""
+    """Gives all runs, of which there are `left`, to workers, and yields each as it is done; looks after the
+    workers while none is."""
     pending: set[Future[Chunk]] = set()
-    size, is_over = 1, False
+    each = inf  # seconds of a run
     try:
-        while pending or not is_over:
-            most = _AHEAD * workers()
-            while not is_over and len(pending) < most:
-                chunk = list(islice(runs, size))
-                is_over = not chunk
-                if chunk:
-                    pending.add(submit(chunk))
+        while pending or left:
+            there = workers()
+            while left and len(pending) < _AHEAD * there:
+                chunk = list(islice(runs, _at_once(each, left / there)))
+                left -= len(chunk)
+                pending.add(submit(chunk))
             done, pending = wait(pending, _LOOK, return_when=FIRST_COMPLETED)
             if not done:
                 look()
             for future in done:
                 result = future.result()
-                size = _next_size(result)
+                each = result.seconds / len(result.ran)
                 yield from result.ran
     finally:
         for future in pending:
             future.cancel()
 
 
-def _next_size(chunk: Chunk) -> int:
-    each = chunk.seconds / len(chunk.ran)
-    return max(1, min(_MOST_AT_ONCE, int(_SECONDS / each)))
+def _at_once(each: float, share: float) -> int:
+    """How many runs a worker is given at once, where each takes so many seconds and its share of those that are
+    left is so great."""
+    most, least = min(_MOST_AT_ONCE, int(_MOST_SECONDS / each)), int(_LEAST_SECONDS / each)
+    return max(1, min(most, max(least, int(share / _PARTS))))
 
 
 @contextmanager
-def on_this_machine(plan: Plan, program: Program, jobs: int) -> Iterator[Work]:
-    """What does the runs on so many processors."""
+def on_this_machine(plan: Plan, program: Program, jobs: int, left: int) -> Iterator[Work]:
+    """What does the runs, of which there are `left`, on so many processors."""
+    jobs = max(1, min(jobs, left))
     if jobs == 1:
         runner = Runner(plan, program)
         yield lambda runs: map(runner.ran, runs)
@@ -73,7 +83,7 @@ def on_this_machine(plan: Plan, program: Program, jobs: int) -> Iterator[Work]:
         jobs, multiprocessing.get_context(how), initializer=_begin, initargs=(plan, program)
     )
     try:
-        yield lambda runs: _driven(pool, jobs, runs)
+        yield lambda runs: _driven(pool, jobs, runs, left)
     except BaseException:
         pool.shutdown(wait=False, cancel_futures=True)
         for process in set(multiprocessing.active_children()) - before:
@@ -83,9 +93,9 @@ def on_this_machine(plan: Plan, program: Program, jobs: int) -> Iterator[Work]:
         pool.shutdown(wait=True, cancel_futures=True)
 
 
-def _driven(pool: Executor, jobs: int, runs: Iterator[Run]) -> Iterator[Ran]:
+def _driven(pool: Executor, jobs: int, runs: Iterator[Run], left: int) -> Iterator[Ran]:
     try:
-        yield from drive(lambda chunk: pool.submit(_chunk, chunk), lambda: jobs, runs)
+        yield from drive(lambda chunk: pool.submit(_chunk, chunk), lambda: jobs, runs, left)
     except BrokenProcessPool:
         raise Fault(
             "a worker has ended before its runs did: the same command goes on from what is done"
@@ -98,6 +108,7 @@ _runner: Runner | None = None  # of a worker's process
 def _begin(plan: Plan, program: Program) -> None:
     """What a worker begins with: Ctrl-C is told to the process alone that asks, which ends its workers."""
     global _runner
+    gc.freeze()  # (what it shares with that process is not looked through, which would copy it)
     signal.signal(signal.SIGINT, signal.SIG_IGN)
     signal.signal(signal.SIGTERM, _end)
     _runner = Runner(plan, program)

@@ -3,6 +3,7 @@
 from __future__ import annotations
 
 import tomllib
+from collections.abc import Callable
 from dataclasses import dataclass, replace
 from functools import cached_property
 from pathlib import Path
@@ -22,6 +23,7 @@ from tp_sdk.sweeping.plan import Compiled
 from tp_sdk.symbols import Symbols
 
 NOISE = "noise"  # the name of the domain that is put beside
+_MOST_KEPT = 1 << 22  # letters
 
 
 class Refused(Exception):
@@ -42,13 +44,13 @@ class Built:
 
 class Images:
     """Builds the images of one description's variants. A source is compiled once for each stack and each kind
-    of machine; a domain that isn't varied is written once; a bound is asked for once for each machine."""
+    of machine, a domain is written once for its values, and a bound is asked for once for each machine."""
 
     def __init__(
         self, description: Description, programs: dict[Compiled, Loaded], program: Program | None
     ) -> None:
         self._description, self._programs, self._program = description, programs, program
-        self._own_texts: dict[tuple[int, str], str] = {}
+        self._texts = _Texts()
         self._bounds: dict[str, list[int]] = {}
         self._last_machine: tuple[dict[str, Any], str] | None = None
         self._noise: dict[int, Loaded] = {}
@@ -105,13 +107,11 @@ class Images:
 
     def _domain_text(self, number: int, it: DomainDescription, arch: str) -> str:
         is_own = it is self._description.domains[number]
-        if is_own and (number, arch) in self._own_texts:
-            return self._own_texts[number, arch]
-        loaded = self._programs[number, it.stack, arch]
-        text = image_domain(it, _copy(loaded)).to_toml()
-        if is_own:
-            self._own_texts[number, arch] = text
-        return text
+        varied = (it.colours, it.stack, it.caps, it.lines, it.moments, it.calls, it.words)
+        known = f"{number} {arch} {None if is_own else varied}"
+        return self._texts.of(
+            known, lambda: image_domain(it, _copy(self._programs[number, it.stack, arch])).to_toml()
+        )
 
     def _asked_bounds(self, text: str, entries: int, program: Program) -> list[int]:
         ended = program.run(["bound"], text)
@@ -144,6 +144,26 @@ class Images:
             ]
             self._noise[seed] = Loaded(Path(NOISE), drawn["entry"], segments, Symbols())
         return self._noise[seed]
+
+
+class _Texts:
+    """Texts that were written, by what they are of: the last ones, as far as they are not too long in all."""
+
+    def __init__(self) -> None:
+        self._texts: dict[str, str] = {}
+        self._length = 0
+
+    def of(self, known: str, write: Callable[[], str]) -> str:
+        """A text, which is written where it is not there."""
+        text = self._texts.get(known)
+        if text is None:
+            text = write()
+            if self._length > _MOST_KEPT:
+                self._texts.clear()
+                self._length = 0
+            self._texts[known] = text
+            self._length += len(known) + len(text)
+        return text
 
 
 def _copy(loaded: Loaded) -> Loaded:

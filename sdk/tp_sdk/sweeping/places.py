@@ -11,7 +11,7 @@ from tp_sdk import keys
 from tp_sdk.calls import NUMBERS
 from tp_sdk.description import DOMAIN_KEYS, ENTRY_KEYS, Description, DomainDescription, EntryDescription, Key
 from tp_sdk.faults import Fault
-from tp_sdk.report import GUARDS
+from tp_sdk.guards import GUARDS
 from tp_sdk.spelling import did_you_mean
 from tp_sdk.sweeping.values import Value, written
 from tp_sdk.values import bytes_of

@@ -7,12 +7,11 @@ from collections.abc import Sequence
 from dataclasses import dataclass
 from time import perf_counter
 
-from tp_sdk.build import is_refusal
-from tp_sdk.explain import explain
+from tp_sdk.build import explanation_of, is_refusal
 from tp_sdk.faults import Fault, Missing
+from tp_sdk.outline import outline_of, switch_of
 from tp_sdk.program import Ended, Program
-from tp_sdk.refusals import Refusal
-from tp_sdk.report import outline_of, switch_of
+from tp_sdk.running import words_for
 from tp_sdk.schedule import hart_for, time_of
 from tp_sdk.sweeping.images import Built, Images, Refused
 from tp_sdk.sweeping.places import Variant
@@ -69,7 +68,8 @@ class Runner:
         variant = self._plan.variant(run)
         try:
             built = self._images.build(variant)
-            ended = self._program.run(_words(variant, self._plan.slots), built.text)
+            words = [*words_for(variant.off, seed=variant.harts), "--slots", str(self._plan.slots)]
+            ended = self._program.run(words, built.text)
             if ended.code != 0:
                 raise Refused(built.text, ended)
         except Refused as refused:
@@ -98,8 +98,7 @@ class Runner:
     def _why(self, refused: Refused, variant: Variant) -> str:
         ended = refused.ended
         if is_refusal(ended):
-            file = str(self._plan.description.file)
-            return explain(refused.text.encode(), file, Refusal.parse(ended.text)).reason()
+            return explanation_of(refused.text, str(self._plan.description.file), ended).reason()
         if ended.code == _USAGE and variant.off is not None:
             return f"with several harts no guard can be off, and {variant.off} is"
         if ended.code == _TOO_LONG:
@@ -107,15 +106,6 @@ class Runner:
         raise Fault(
             f"{self._plan.description.file}: the program tp ended with {ended.code}: {ended.text.strip()}"
         )
-
-
-def _words(variant: Variant, slots: int) -> list[str]:
-    """The program's words."""
-    if variant.off is not None:
-        return ["ablate", "--off", variant.off, "--slots", str(slots)]
-    if variant.harts is not None:
-        return ["harts", "--slots", str(slots), "--seed", str(variant.harts)]
-    return ["run", "--slots", str(slots)]
 
 
 def _in_short(lines: list[str]) -> bytes:

@@ -32,7 +32,7 @@ class Format(Protocol):
     def rows(self, file: Path) -> list[Cells]:
         """The rows of a file."""
 
-    def encoded(self, columns: Sequence[str], rows: Iterable[Cells], is_first: bool) -> bytes:
+    def encoded(self, columns: Sequence[str], rows: Sequence[Cells], is_first: bool) -> bytes:
         """Rows as bytes; before the first ones stands what a file begins with."""
 
 
@@ -49,7 +49,7 @@ class Csv:
             raise Fault(f"{file}: no CSV: {error}") from None
         return [dict(zip(lines[0], line)) for line in lines[1:]]
 
-    def encoded(self, columns: Sequence[str], rows: Iterable[Cells], is_first: bool) -> bytes:
+    def encoded(self, columns: Sequence[str], rows: Sequence[Cells], is_first: bool) -> bytes:
         """Rows as bytes."""
         out = io.StringIO()
         writer = csv.writer(out, lineterminator="\n")
@@ -71,7 +71,7 @@ class JsonLines:
         except (ValueError, TypeError):
             raise Fault(f"{file}: its lines are no objects of JSON") from None
 
-    def encoded(self, columns: Sequence[str], rows: Iterable[Cells], is_first: bool) -> bytes:
+    def encoded(self, columns: Sequence[str], rows: Sequence[Cells], is_first: bool) -> bytes:
         """Rows as bytes."""
         return "".join(f"{json.dumps({it: row[it] for it in columns})}\n" for row in rows).encode()
 
@@ -97,15 +97,9 @@ class Parquet:
             raise Fault(f"{file}: no Parquet") from None
         return [dict(it) for it in table.to_pylist()]
 
-    def encoded(self, columns: Sequence[str], rows: Iterable[Cells], is_first: bool) -> bytes:
-        """Rows as bytes: a column has values of one kind, or texts."""
-        cells: dict[str, list[Any]] = {name: [] for name in columns}
-        for row in rows:
-            for name in columns:
-                cells[name].append(row[name])
-        for name, column in cells.items():
-            if name not in COLUMNS and len({type(it) for it in column}) > 1 or _has_tables(column):
-                cells[name] = [written(it) for it in column]
+    def encoded(self, columns: Sequence[str], rows: Sequence[Cells], is_first: bool) -> bytes:
+        """Rows as bytes."""
+        cells = {name: _in_parquet(name, [row[name] for row in rows]) for name in columns}
         out = io.BytesIO()
         self._arrow.parquet.write_table(self._arrow.table(cells), out)
         return out.getvalue()
@@ -161,8 +155,8 @@ class Table:
 
     def put_in_order(self) -> None:
         """Has the rows in the grid's order, those of no point of it after them."""
-        if self._file in (None, STANDARD):
-            return
+        if self._file in (None, STANDARD) or self._is_empty:
+            return  # (points are added in that order)
         cells = self._read()
         places = {self._plan.key(it): it for it in range(len(self._plan.points))}
         last = len(places)
@@ -266,5 +260,8 @@ def number_of(name: str, cell: Any) -> float | None:
     return int(cell) if name in _WHOLE else float(cell)
 
 
-def _has_tables(column: list[Any]) -> bool:
-    return any(isinstance(it, (list, dict)) for it in column)
+def _in_parquet(name: str, column: list[Any]) -> list[Any]:
+    """A column, whose values are of one kind: where what is varied has several, or tables, it has texts."""
+    kinds = {type(it) for it in column}
+    is_one = name in COLUMNS or len(kinds) == 1 and not kinds & {list, dict}
+    return column if is_one else [written(it) for it in column]
