@@ -53,9 +53,9 @@ module _ (p : Public) (o : Own) {number : ℕ} (runs : RunsAlone p o number) whe
   slot_soon : (k : ℕ) (s : Local) → IsSoon p.hardware timed o true (slot_end p.schedule k) (alone_in p o k s)
   unfolding alone_in alone_enter
   slot_soon k s =
-      let within = instruction_within p.hardware o 0 s.dom s.storage in
+      let within = instruction_within p.hardware o runs.pool.sound.listed 0 s.dom s.storage in
       let base = timed.base in
-      stretch_soon p.hardware timed o true (slot_end p.schedule k) (alone_enter p o k s)
+      stretch_soon p.hardware timed o true (slot_end p.schedule k) runs.pool.sound.listed (alone_enter p o k s)
       (record { clock = omega (arith, within, base); ways = entered_ways k s })
 
   pad_enough : (k : ℕ) → (entry_of_slot p.schedule k).domain ≡ number

@@ -6,8 +6,9 @@ use Rattle.std.specs.Prelude.{nat_eq, nat_le, if◌then◌else◌}
 use Rattle.tp_base.specs.Act.{either}
 use Rattle.phys_mem.specs.Mem.{Mem}
 use Rattle.rv_core.specs.Registers.{register}
-use Rattle.kernel_clone.specs.Footprints.{is_of_switch, delivery_op, bad_call_op}
-use Rattle.kernel_clone.specs.Permissions.{may_make, permitted}
+use Rattle.kernel_clone.specs.Footprints.{is_of_switch, leave_op, enter_op, bad_call_op}
+use Rattle.kernel_clone.specs.Permissions.{is_call, may_make, permitted}
+use Rattle.kernel_clone.proofs.CallLaws.{differ}
 use Rattle.pad_bound.specs.Bound.{most_entries}
 use Rattle.pad_bound.specs.Worst.{IsCallWork, most_entries_of}
 use Rattle.cap_table.specs.declared.Cap.{Cap}
@@ -107,46 +108,42 @@ call_of_works e d number a b c =
 
 -- a call's operation is of no switch
 pub is_call_op : (number : ℕ) → is_of_switch (op_of number) ≡ false
-is_call_op number = by_test (nat_le number 14) refl
+is_call_op number = by_test (is_call number) refl
   where
-    by_test : (b : Bool) → nat_le number 14 ≡ b → is_of_switch (if b then number else bad_call_op) ≡ false
-    by_test true small =
-        let below : number ≤ 14 = leb-true number 14 small in
-        rw (ne_eqb number 16 (λ e. absurd (omega (arith, below, e))), ne_eqb number 17 (λ e. absurd (omega (arith, below, e)))) refl
-    by_test false large = refl
+    by_test : (b : Bool) → is_call number ≡ b → is_of_switch (if b then number else bad_call_op) ≡ false
+    by_test true is = rw (differ number leave_op true is refl, differ number enter_op true is refl) refl
+    by_test false none = refl
 
--- a number above those of the calls writes nothing
-no_entries : (number : ℕ) → nat_le number 14 ≡ false → most_entries_of number ≡ 0
-no_entries number large =
-    let above : 14 < number = leb-false number 14 large in
+-- a number of no call writes nothing
+no_entries : (number : ℕ) → is_call number ≡ false → most_entries_of number ≡ 0
+no_entries number none =
     rw (
-      ne_eqb number 8 (λ e. absurd (omega (arith, above, e))),
-      ne_eqb number 3 (λ e. absurd (omega (arith, above, e))),
-      ne_eqb number 4 (λ e. absurd (omega (arith, above, e))),
-      ne_eqb number 5 (λ e. absurd (omega (arith, above, e))),
-      ne_eqb number 7 (λ e. absurd (omega (arith, above, e))),
+      differ number 8 false none refl,
+      differ number 3 false none refl,
+      differ number 4 false none refl,
+      differ number 5 false none refl,
+      differ number 7 false none refl,
     ) refl
 
 call_work : (d : Dom) (number : ℕ) (v : Dom ⊎ Dom) (ns : List Note) → IsWork d number v ns
     → IsCallWork (work_of number ns)
 unfolding work_of
-call_work d number v ns w = by_test (nat_le number 14) refl
+call_work d number v ns w = by_test (is_call number) refl
   where
-    by_test : (b : Bool) → nat_le number 14 ≡ b → IsCallWork (work_of number ns)
-    by_test true small =
-        let own : op_of number ≡ number = ap (λ (t : Bool). if t then number else bad_call_op) small in
+    by_test : (b : Bool) → is_call number ≡ b → IsCallWork (work_of number ns)
+    by_test true is =
+        let own : op_of number ≡ number = ap (λ (t : Bool). if t then number else bad_call_op) is in
         record {
           call = is_call_op number;
           zeroes = λ frame is. own ∙ w.zeroes frame is;
           few = subst (λ (op : ℕ). length (entries_in ns) ≤ most_entries_of op) (sym own) w.few;
         }
-    by_test false large =
-        let above : 14 < number = leb-false number 14 large in
-        let none = no_entries number large in
+    by_test false none =
+        let no = no_entries number none in
         record {
           call = is_call_op number;
-          zeroes = λ frame is. let same = w.zeroes frame is in absurd (omega (arith, above, same));
-          few = let few = w.few in omega (arith, few, none);
+          zeroes = λ frame is. let same = sym none ∙ ap is_call (w.zeroes frame is) in absurd (cc same);
+          few = let few = w.few in omega (arith, few, no);
         }
 
 pub call_of_bounded : (e : Estate) (d : Dom) (m : Mem) (number a b c : ℕ)
@@ -178,20 +175,20 @@ calls_bounded e d m =
     let regs = d.threads.current.regs in
     call_of_bounded e d m (number_made e d) (register regs 10) (register regs 11) (register regs 12)
 
--- an operation below those of the kernel's own is that of a call which the domain may make
-made_permitted : (calls number : ℕ) → op_of (permitted calls number) < delivery_op
+-- an operation of a call's number is that of a call which the domain may make
+made_permitted : (calls number : ℕ) → is_call (op_of (permitted calls number)) ≡ true
     → may_make calls (op_of (permitted calls number)) ≡ true
 made_permitted calls number = by_test (may_make calls number) refl
   where
     by_test : (b : Bool) → may_make calls number ≡ b → let n = if b then number else bad_call_op in
-        op_of n < delivery_op → may_make calls (op_of n) ≡ true
-    by_test true may below = by_number (nat_le number 14) refl below
+        is_call (op_of n) ≡ true → may_make calls (op_of n) ≡ true
+    by_test true may is = by_number (is_call number) is
       where
-        by_number : (b : Bool) → nat_le number 14 ≡ b → (if b then number else bad_call_op) < delivery_op
+        by_number : (b : Bool) → is_call (if b then number else bad_call_op) ≡ true
             → may_make calls (if b then number else bad_call_op) ≡ true
-        by_number true small below = may
-        by_number false large below = absurd (omega (arith, below))
-    by_test false may below = absurd (omega (arith, below))
+        by_number true is = may
+        by_number false is = absurd (cc is)
+    by_test false may is = absurd (cc is)
 
 pub calls_permitted : PermittedLaw
 unfolding work_of

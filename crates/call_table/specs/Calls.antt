@@ -1,4 +1,4 @@
--- The kernel calls 0 to 14, of which a domain may make those that it is allowed. The number is in x17, the arguments a, b and c are in x10, x11 and x12. A call is refused by the
+-- The kernel calls, of which a domain may make those that it is allowed. The number is in x17, the arguments a, b and c are in x10, x11 and x12. A call is refused by the
 -- first of its errors, in the order of their numbers: 1 BadCall, 2 BadSlot, 3 Empty, 4 Used, 5 WrongKind, 6 BadRights,
 -- 7 BadAddress, 8 Mapped, 9 NoTable, 10 NoFrame, 11 OutputFull, 12 InUse, 13 NoThread.
 use Rattle.std.specs.Prelude.{ℕ, ◌/◌, ◌%◌, Bool, true, false, not, ◌&&◌, ◌||◌, nat_eq, nat_le, nat_lt, if◌then◌else◌, List, [], ◌∷◌, ◌++◌, length, Option, Some, None, is_some}
@@ -15,7 +15,7 @@ use Rattle.page_map.specs.declared.refusal.MapRefusal.TheVariants as refusal
 use Rattle.page_map.specs.Tables.{map_refusal, install_refusal}
 use Rattle.page_map.specs.Changes.{table_entry, page_entry, mapped, unmapped, installed, uninstalled}
 use Rattle.kernel_clone.specs.Footprints.{WorkDone, bad_call_op}
-use Rattle.kernel_clone.specs.Permissions.{permitted}
+use Rattle.kernel_clone.specs.Permissions.{is_call, permitted}
 use Rattle.cap_table.specs.declared.Cap.{Cap}
 use Rattle.cap_table.specs.declared.Cap.TheVariants as cap
 use Rattle.cap_table.specs.Slots as slots
@@ -49,7 +49,7 @@ empties (_ ∷ ns) = empties ns
 
 -- the operation of a call's number: its own, or that of a bad call
 abbrev pub op_of : ℕ → ℕ
-op_of number = if nat_le number 14 then number else bad_call_op
+op_of number = if is_call number then number else bad_call_op
 
 -- what its footprint depends on
 unfoldable pub work_of : ℕ → List Note → WorkDone

@@ -48,12 +48,13 @@ claim_of (Some (cap.Table f installed)) = Claim.Directory f (region_of installed
 claim_of _ = Claim.Nothing
 
 -- ---- what a domain has for good: its share of memory, its root, what is claimed for good (the frames of its kernel clone,
--- the root, the tables that it began with, and the pages that no capability names), and which calls it may make
+-- the root, the tables that it began with, and the pages that no capability names), which calls it may make, and its number
 pub record Estate : Type 0 where
   pub share : Share
   pub root : ℕ
   pub fixed : List Claim
   pub calls : ℕ  -- a bit each
+  pub number : ℕ
 
 -- whether a frame of memory is the domain's own
 abbrev pub is_mine : Estate → ℕ → Bool

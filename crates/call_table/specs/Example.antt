@@ -6,7 +6,7 @@ use Rattle.rv_core.specs.Registers.{zeros, with_register}
 use Rattle.thread_set.specs.declared.ThreadState.TheVariants.{Ready, Waiting, Ended}
 use Rattle.thread_set.specs.Threads as threads
 use Rattle.thread_set.specs.Threads.{current_number, never, turned_to, yielded, given_way, with_current, with_thread, vacant, spawned, blocked, finished, waiter, woken, all_ended}
-use Rattle.kernel_clone.specs.Permissions.{may_make, every_call}
+use Rattle.kernel_clone.specs.Permissions.{may_make, every_call, calls_below}
 use Rattle.cap_table.specs.declared.Cap.TheVariants as cap
 use Rattle.cap_table.specs.Slots.{empty_slots, in_use}
 use Rattle.call_table.specs.declared.DomainStatus.TheVariants.{Exited}
@@ -18,7 +18,13 @@ use Rattle.call_table.specs.Calls.{Note, zeroed_in, entries_in, work_of, empty_b
 -- a domain of which the calls below use nothing
 abbrev pub nothing : Estate
 nothing =
-    record { share = record { frames = 0; colours = 0; own = [] }; root = 0; fixed = []; calls = every_call }
+    record {
+      share = record { frames = 0; colours = 0; own = [] };
+      root = 0;
+      fixed = [];
+      calls = every_call;
+      number = 0;
+    }
 
 unfoldable pub fresh : Dom
 fresh = dom_at_entry 65536 empty_slots
@@ -154,7 +160,7 @@ asking number =
     }
 
 pub made : (number_made few (asking 1) ≡ 1) × (number_made nothing (asking 13) ≡ 13)
-unfolding fresh dom_at_entry threads.threads_at_entry with_current may_make
+unfolding fresh dom_at_entry threads.threads_at_entry with_current may_make calls_below
 made = (refl, refl)
 
 -- its YIELD is none: 1 is BadCall, and the operation is that of a bad call

@@ -1,10 +1,15 @@
--- K18, the rule of the calls that a domain may make: each is one of 15, and above the one before.
-use Rattle.std.specs.Prelude.{ℕ, ◌-◌, ◌||◌, not, ℤ, pos, int_lt, Bool, true, if◌then◌else◌, List, [], length, slice_get, Option, Some, None}
-use Rattle.kernel_clone.specs.Permissions.{every_call, calls_of}
+-- K18, the rule of the calls that a domain may make: each is a call's number, and above the one before.
+use Rattle.std.specs.Prelude.{ℕ, ◌-◌, ◌||◌, not, ℤ, pos, negsuc, int_lt, Bool, true, false, if◌then◌else◌, List, [], length, slice_get, Option, Some, None}
+use Rattle.kernel_clone.specs.Permissions.{is_call, every_call, calls_of}
 use Rattle.image_record.specs.declared.refusal.Refusal.{Refusal}
 use Rattle.image_record.specs.Record.{Raw, RawDomain}
-use Rattle.image_record.specs.Cases.{first_in, refusal, outside}
+use Rattle.image_record.specs.Cases.{first_in, refusal}
 use Rattle.image_record.specs.Numbers.{names}
+
+-- a number that an image says is a call's
+abbrev pub names_call : ℤ → Bool
+names_call (pos n) = is_call n
+names_call (negsuc n) = false
 
 -- above the number before, if there is one
 abbrev pub is_next : Option ℤ → ℤ → Bool
@@ -14,7 +19,7 @@ is_next (Some y) x = int_lt y x
 -- domain d, and the place in its list
 unfoldable pub k18_call : ℕ → List ℤ → ℤ → Option Refusal
 k18_call d earlier x =
-    if outside (pos 0) (pos 14) x || not (is_next (slice_get earlier (length earlier - 1)) x)
+    if not (names_call x) || not (is_next (slice_get earlier (length earlier - 1)) x)
     then Some (refusal 18 (pos d) (pos (length earlier)) (pos 14))
     else None
 

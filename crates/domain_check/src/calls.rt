@@ -1,22 +1,26 @@
 // K18, the rule of the calls that a domain may make; and which those are.
-ghost use Rattle.std.specs.Prelude.{◌≡◌, ◌-◌, ◌<◌, ◌^◌, pos, if◌then◌else◌, map, length, slice_get, option_map};
-ghost use Rattle.kernel_clone.specs.Permissions.{calls_of as spec_calls_of};
+ghost use Rattle.std.specs.Prelude.{◌≡◌, ◌-◌, ◌<◌, ◌^◌, ◌&&◌, pos, if◌then◌else◌, map, length, slice_get, option_map};
+ghost use Rattle.kernel_clone.specs.Permissions.{is_call as spec_is_call, calls_end, calls_of as spec_calls_of};
 ghost use Rattle.image_record.specs.Models.{raw_model};
 ghost use Rattle.image_record.specs.Cases.{first_in};
 ghost use Rattle.image_record.specs.Outcomes.{IsVerdict, Makes};
 ghost use Rattle.domain_check.specs.Calls as spec;
 ghost use Rattle.image_record.specs.Numbers.{names as spec_names};
 
-use image_record::cases::{outside, refusal};
+use image_record::cases::refusal;
 use image_record::{Raw, ReadRefusal, Refusal, names};
-use kernel_clone::EVERY_CALL;
+use kernel_clone::{CALLS_END, EVERY_CALL, is_call};
 use std::alloc::Global;
 
-/// How many calls there are.
-const ALL_CALLS: u32 = 15;
-
-/// The greatest number of a call.
+/// The number that a refusal names: that of the last call.
 const LAST_CALL: i64 = 14;
+
+/// Whether a number that an image says is a call's.
+fn names_call(number: i64) -> bool
+    ensures value { result ≡ spec.names_call number }
+{
+    0 <= number && number < i64::from(CALLS_END) && is_call(number as u32)
+}
 
 /// Whether a number is above the last of the earlier ones, if there is one.
 fn is_next(earlier: &[i64], number: i64) -> bool
@@ -34,7 +38,7 @@ fn k18_call(d: usize, earlier: &[i64], call: i64) -> Result<(), Refusal>
     requires place { length earlier.now < 2 ^ 63 }
     ensures verdict { IsVerdict result (spec.k18_call d earlier.now call) }
 {
-    if outside(0, LAST_CALL, call) || !is_next(earlier, call) {
+    if !names_call(call) || !is_next(earlier, call) {
         return Err(refusal(18, d as i64, earlier.len() as i64, LAST_CALL));
     }
     Ok(())
@@ -59,8 +63,7 @@ fn listed(calls: &Option<Vec<i64>>) -> &[i64]
     }
 }
 
-/// K18: each number that a domain lists is a call's, 0 to 14, and above the one
-/// before.
+/// K18: each number that a domain lists is a call's, and above the one before.
 ///
 /// # Errors
 ///
@@ -77,10 +80,10 @@ pub fn k18(raw: &Raw) -> Result<(), Refusal>
 
 /// The bit of a call, where it is named.
 fn bit_of(numbers: &[i64], call: u32) -> u32
-    requires call { call < 15 }
-    ensures value { result ≡ (if spec_names numbers.now (pos call) then 2 ^ call else 0) }
+    requires call { call < calls_end }
+    ensures value { result ≡ (if spec_is_call call && spec_names numbers.now (pos call) then 2 ^ call else 0) }
 {
-    if names(numbers, i64::from(call)) {
+    if is_call(call) && names(numbers, i64::from(call)) {
         1 << call
     } else {
         0
@@ -91,7 +94,7 @@ fn calls_among(numbers: &[i64]) -> u32
     ensures value { result ≡ spec_calls_of (λ n. spec_names numbers.now (pos n)) }
 {
     let mut calls = 0;
-    for call in 0..ALL_CALLS {
+    for call in 0..CALLS_END {
         calls += bit_of(numbers, call);
     }
     calls
@@ -99,7 +102,7 @@ fn calls_among(numbers: &[i64]) -> u32
 
 /// The calls that a list names, a bit each: bit n is that of call n. Numbers that
 /// are no call's count for nothing; without a list it is every call.
-#[tactic(auto, unfolding(crate::specs::Calls::calls_in))]
+#[tactic(auto, unfolding(crate::specs::Calls::calls_in, kernel_clone::specs::Permissions::calls_below))]
 pub fn calls_of(calls: &Option<Vec<i64>>) -> u32
     ensures value { result ≡ spec.calls_in (option_map (λ v. v.items) calls.now) }
 {

@@ -254,11 +254,12 @@ module _ (p : Hardware) (o : Own) where
 
       pub has_estate : (d : Domain) → d.map ≡ root_of p o
           → d.pool ≡ record { share = share_of p o; free = drop (frames_in o.segments) (pool p o) }
-          → d.caps ≡ first_slots p o → d.calls ≡ o.calls → Has (estate p o) d
+          → d.caps ≡ first_slots p o → d.calls ≡ o.makes → d.number ≡ o.number → Has (estate p o) d
       unfolding estate
-      has_estate d root free caps calls = record {
+      has_estate d root free caps calls number = record {
         root = root;
         calls = calls;
+        number = number;
         pool =
             free
             ∙ ap (λ (fs : List ℕ). record { share = share_of p o; free = fs })
@@ -305,11 +306,11 @@ module _ (p : Hardware) (o : Own) (has : HasPool p o) (apart : AreApart o.segmen
       → d.interrupts ≡ irq.none_delivered o.moments
       → threads_model d.threads ≡ threads.threads_at_entry o.entry → d.tables.items ≡ first_tables p o
       → d.kept.items ≡ clone_frames p o ++ unnamed (first_slots p o) (page_frames p o)
-      → layout_model d.layout ≡ layout p o → d.calls ≡ o.calls → IsOpened p o d
+      → layout_model d.layout ≡ layout p o → d.calls ≡ o.makes → d.number ≡ o.number → IsOpened p o d
   unfolding irq.none_delivered
-  is_opened d new root free caps irqs at tables kept clone calls = record {
+  is_opened d new root free caps irqs at tables kept clone calls number = record {
     stands = at_entry p o d new at caps irqs;
-    has = has_estate p o has.enough has.sound apart d root free caps calls;
+    has = has_estate p o has.enough has.sound apart d root free caps calls number;
     tables = tables;
     kept = kept ∙ ap (λ (fs : List ℕ). clone_frames p o ++ fs) (kept_are p o);
     layout = clone;

@@ -18,6 +18,7 @@ use Rattle.kernel_call.specs.declared.domain.Domain.{Domain}
 use Rattle.kernel_call.specs.Models.{Stands, CountsUpTo}
 use Rattle.kernel_call.specs.Facts.{Has}
 use Rattle.world_view.specs.Kernel.{first_slots, opening_dom, estate, layout}
+use Rattle.world_view.specs.Machine.{domains_of}
 
 -- the domain's pool has all frames that it wants, and no frame's number is too large
 pub record HasPool (p : Hardware) (o : Own) : Type 0 where
@@ -94,4 +95,4 @@ all_shares i = map (share_of i.all.hardware) i.owns
 
 -- the memory that the machine of an image opens with
 abbrev pub placed_all : Image → Mem
-placed_all i = all_placed i.all.hardware i.owns
+placed_all i = all_placed i.all.hardware (domains_of i)

@@ -92,7 +92,8 @@ pub fn open_domain(
         interrupts,
         threads: ThreadSet::new(own.entry),
         layout,
-        calls: own.calls,
+        calls: own.makes,
+        number: own.number,
     };
     Domain::new(alloc, begin)
 }

@@ -183,7 +183,7 @@ module _ {P : Type 0} (rule : P → ℕ → Rule) (stands : P → ℕ → ℕ �
       (s : Storage) (r : Touched)
       → IsItsPage s.mem f → memory'.frames ≡ memory.frames → Holds memory' (written s.mem f i v)
       → Keeps system spent s r
-      → Kept rule stands w caps root memory' system spent (record { mem = written s.mem f i v }) r
+      → Kept rule stands w caps root memory' system spent (record s { mem = written s.mem f i v }) r
   stored_kept memory' system spent f i v s r page frames holds k =
       let e = estate w.machine w.own in
       let d = dom_of caps in
@@ -402,7 +402,7 @@ module _ {P : Type 0} (rule : P → ℕ → Rule) (stands : P → ℕ → ℕ �
       let stored : (m : Mem) → Holds memory m → Holds memory' (next m) =
       rw (place_there at made.at e, low_there at made.at e) at write in
       let writes : (t : Storage) (q : Touched) → On' t q
-      → Kept rule stands w caps root memory' new spent' (record { mem = next t.mem }) q =
+      → Kept rule stands w caps root memory' new spent' (record t { mem = next t.mem }) q =
       λ t q k.
       stored_kept rule stands w caps root memory memory' new spent' f i
       (stored_in made.size (word t.mem f i) (made.at % 4) made.word) t q k.page frames

@@ -67,10 +67,10 @@ module _ (off : Option Guard) (i : Image) (d : ℕ) (w : World) (memory : Conten
   runs_there x got = sym (ap (λ (m : Dom). is_running m.status) (is.each_domain d x got).dom.same)
 
   -- the first moment that is due
-  first_there : first_among now domains (length domains) ≡ first_due i 0 w (length i.owns)
+  first_there : first_among now domains (length domains) ≡ first_due i 0 w i.all.domains
   first_there =
       among_is now domains i w is.all_domains is.machine.time next_there (length domains) (omega arith)
-      ∙ ap (first_due i 0 w) is.all_domains
+      ∙ ap (first_due i 0 w) (is.all_domains ∙ sym r.counted)
 
   -- ---- an event of domain d itself
 
@@ -78,7 +78,7 @@ module _ (off : Option Guard) (i : Image) (d : ℕ) (w : World) (memory : Conten
   begun = part_of 0 d w
 
   own_if : (b : Bool) (o : Option Owned) (end : ℕ) → is_running (dom_of w d).status ≡ b
-      → first_due i 0 w (length i.owns) ≡ o
+      → first_due i 0 w i.all.domains ≡ o
       → (b ≡ true → o ≡ None) → step_among g i 0 d end w ≡ with_part 0 d w (step (setting_by g i d) end begun)
   unfolding step_among
   own_if true None end runs first none = rw (runs, first) refl
@@ -90,7 +90,7 @@ module _ (off : Option Guard) (i : Image) (d : ℕ) (w : World) (memory : Conten
       → (is_running x.status ≡ true → first_among now domains (length domains) ≡ None)
       → step_among g i 0 d end w ≡ with_part 0 d w (step (setting_by g i d) end begun)
   own_event end x got none =
-      own_if (is_running (dom_of w d).status) (first_due i 0 w (length i.owns)) end refl refl
+      own_if (is_running (dom_of w d).status) (first_due i 0 w i.all.domains) end refl refl
       (λ runs. sym first_there ∙ none (sym (runs_there x got) ∙ runs))
 
   pub own_stands : (end : ℕ) (x y : Domain) (memory' : Contents) (system' : SystemContents AnyPolicy)
@@ -111,7 +111,7 @@ module _ (off : Option Guard) (i : Image) (d : ℕ) (w : World) (memory : Conten
   -- ---- a delivery, to any domain
 
   due_if : (b : Bool) (o : Owned) (end : ℕ) → is_running (dom_of w d).status ≡ b → b ≡ true
-      → first_due i 0 w (length i.owns) ≡ Some o
+      → first_due i 0 w i.all.domains ≡ Some o
       → step_among g i 0 d end w ≡ with_part 0 o.owner w (delivered (setting_by g i d) o.moment.line
       (part_of 0 o.owner w))
   unfolding step_among
@@ -174,7 +174,7 @@ module _ (off : Option Guard) (i : Image) (d : ℕ) (w : World) (memory : Conten
       let new : DomainStands (setting_by g i o.owner) z (delivered_on o.moment.line (dom_of w o.owner)) =
       record {
         dom = dom;
-        has = has_still (estate p (own_of i o.owner)) y z was.has keeps.caps keeps.pool keeps.map keeps.calls;
+        has = has_still (estate p (own_of i o.owner)) y z was.has keeps.caps keeps.pool keeps.map keeps.calls keeps.number;
         layout = ap (λ (c : CloneLayout). layout_model c) keeps.layout ∙ was.layout;
         moments = keeps.moments ∙ was.moments;
       } in

@@ -17,17 +17,26 @@ use Rattle.domain_step.proofs.Points.{Point, Side, YieldsAt, KeptWhole, KeptPart
 
 -- frames that are used as they were still are the domain's
 pub has_still : (e : Estate) (old new : Domain) → Has e old → new.caps ≡ old.caps
-    → new.pool ≡ old.pool → new.map ≡ old.map → new.calls ≡ old.calls → Has e new
-has_still e old new has caps pool map calls = record {
+    → new.pool ≡ old.pool → new.map ≡ old.map → new.calls ≡ old.calls → new.number ≡ old.number → Has e new
+has_still e old new has caps pool map calls number = record {
   root = map ∙ has.root;
   calls = calls ∙ has.calls;
+  number = number ∙ has.number;
   pool =
       pool ∙ has.pool ∙ ap (λ (slots : Slots). record { share = e.share; free = free_frames e slots }) (sym caps);
   slots = ap length caps ∙ has.slots;
 }
 
 pub keeps_itself : (d : Domain) → KeepsFrames d d
-keeps_itself d = record { caps = refl; pool = refl; map = refl; layout = refl; calls = refl; moments = refl }
+keeps_itself d = record {
+  caps = refl;
+  pool = refl;
+  map = refl;
+  layout = refl;
+  calls = refl;
+  number = refl;
+  moments = refl;
+}
 
 module _ {P : Type 0} (rule : P → ℕ → Rule) (stands : P → ℕ → ℕ → List ℕ → Type 0) (p : Point)
     (old : Side P)
@@ -60,7 +69,7 @@ module _ {P : Type 0} (rule : P → ℕ → Rule) (stands : P → ℕ → ℕ �
           facts = record {
             estate = k.facts.estate;
             frames = k.facts.frames ∙ sym frames;
-            has = has_still e old.domain new.domain k.facts.has keeps.caps keeps.pool keeps.map keeps.calls;
+            has = has_still e old.domain new.domain k.facts.has keeps.caps keeps.pool keeps.map keeps.calls keeps.number;
             holds = n.holds;
             facts =
                 subst (λ (caps : Slots). Facts e.root (is_mine e) (claims e caps) t.mem)

@@ -338,14 +338,14 @@ module _ {P : Type 0} (rule : P → ℕ → Rule) (stands : P → ℕ → ℕ �
     pub moves_due : (now later cycles line : ℕ) (work : WorkDone) → old.status ≡ Running
         → due now old.interrupts ≡ Some line
         → Becomes (delivered_on line) old new → new.caps ≡ old.caps → new.pool ≡ old.pool
-        → new.map ≡ old.map → new.layout ≡ old.layout → new.calls ≡ old.calls
+        → new.map ≡ old.map → new.layout ≡ old.layout → new.calls ≡ old.calls → new.number ≡ old.number
         → new.interrupts.moments ≡ old.interrupts.moments → work ≡ plain delivery_op
         → MakesTouches rule stands (operation system.core.costs (layout_model new.layout) work) cycles
         system system'
         → system'.core.tlb ≡ system.core.tlb → later ≡ now + cycles
         → Moves rule stands (step_to end) memory old system now memory new system' later
     unfolding delivered
-    moves_due now later cycles line work runs comes becomes caps pool map clone calls moments is made buffer time
+    moves_due now later cycles line work runs comes becomes caps pool map clone calls number moments is made buffer time
         w s i =
         let e = estate w.machine w.own in
         let ts = delivery_touches w.machine w.clone in
@@ -372,7 +372,7 @@ module _ {P : Type 0} (rule : P → ℕ → Rule) (stands : P → ℕ → ℕ �
           facts = record {
             estate = i.facts.estate;
             frames = i.facts.frames;
-            has = has_still e old new i.facts.has caps pool map calls;
+            has = has_still e old new i.facts.has caps pool map calls number;
             holds = i.facts.holds;
             facts = subst FactsOf (sym caps) i.facts.facts;
           };

@@ -50,7 +50,7 @@ module _ (w : Setting) (s : Storage) (r : Touched) where
   y_read f i Q h = record { met = h }
 
   pub y_write : (f i v : ℕ) (Q : Dom ⊎ Unit {0} → Storage → Touched → Type 0)
-      → Q (inr tt) (record { mem = written s.mem f i v }) r → Yields w (write f i v) s r Q
+      → Q (inr tt) (record s { mem = written s.mem f i v }) r → Yields w (write f i v) s r Q
   unfolding write after
   y_write f i v Q h = record { met = h }
 

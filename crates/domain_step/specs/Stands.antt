@@ -24,6 +24,7 @@ pub record KeepsFrames (old new : Domain) : Type 0 where
   pub map : new.map ≡ old.map
   pub layout : new.layout ≡ old.layout
   pub calls : new.calls ≡ old.calls
+  pub number : new.number ≡ old.number
   pub moments : new.interrupts.moments ≡ old.interrupts.moments
 
 -- it goes on as it stood: it runs if it ran, its thread is ready if it was, and no moment was delivered

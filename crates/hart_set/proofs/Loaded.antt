@@ -13,14 +13,13 @@ use Rattle.image_check.specs.Image.{Image, own_of}
 use Rattle.image_check.specs.Laws.{Runnable}
 use Rattle.kernel_call.specs.declared.domain.Domain.{Domain}
 use Rattle.kernel_call.specs.Models.{Stands, CountsUpTo}
-use Rattle.domain_open.specs.Placing.{AreOpened}
+use Rattle.domain_open.specs.Placing.{AreOpened, placed_all}
 use Rattle.domain_step.specs.Standing.{DomainStands}
 use Rattle.world_view.specs.Cost.{hierarchy}
 use Rattle.world_view.specs.Event.{Storage}
 use Rattle.world_view.specs.Frames.{root_of}
 use Rattle.world_view.specs.Kernel.{no_dom}
 use Rattle.world_view.specs.Machine.{World, setting, dom_of, opening, with_hart}
-use Rattle.world_view.specs.Opening.{all_placed}
 use Rattle.world_view.specs.Relations.{IsDomain}
 use Rattle.world_view.specs.Harts.{Progress, progress_of, domain_in, end_on, hart_of_domain, all_cold, harts, after_by, harts_by}
 use Rattle.world_view.proofs.opening.OpeningLaws.{opening_dom_is}
@@ -37,7 +36,7 @@ use Rattle.hart_set.specs.Reached.{IsReached}
 -- what the code has before it
 pub record IsLoaded (i : Image) (t : State) : Type 0 where
   pub frames : t.memory.frames ≡ i.all.hardware.frames
-  pub holds : Holds t.memory (all_placed i.all.hardware i.owns)
+  pub holds : Holds t.memory (placed_all i)
   pub all_harts : length t.harts.items ≡ harts_in i.all.schedule
   pub cold : All (IsColdHart (hierarchy i.all.hardware) t.l2) t.harts.items
   pub opened : AreOpened i.all.hardware i.owns (length i.owns) t.domains.items

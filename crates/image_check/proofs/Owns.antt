@@ -1,5 +1,5 @@
 -- What each domain has of its own, in an image that breaks no rule.
-use Rattle.std.proofs.Common.{◌≡◌, ◌≢◌, ℕ, ◌+◌, ◌*◌, ◌<◌, ◌≤◌, Bool, true, false, ◌||◌, not, List, [], length, map, take, get_or, length-take, Option, None, Some, refl, sym, ◌∙◌, subst, true≢false, arith, ◌⊎◌, inl, inr}
+use Rattle.std.proofs.Common.{◌≡◌, ◌≢◌, ℕ, zero, suc, ap, ◌∷◌, ◌+◌, ◌*◌, ◌<◌, ◌≤◌, Bool, true, false, ◌||◌, not, List, [], length, map, take, get_or, length-take, Option, None, Some, refl, sym, ◌∙◌, subst, true≢false, arith, ◌⊎◌, inl, inr}
 use Rattle.std.specs.Prelude.{nat_lt, pos, codes, slice_get, if◌then◌else◌}
 use Rattle.std.specs.Str.{bytes_eq}
 use Rattle.std.specs.List.{list_any}
@@ -7,14 +7,14 @@ use Rattle.std.proofs.lemmas.List.{length-map, get_or-map, get_or-take, get_or_p
 use Rattle.std.proofs.lemmas.Option.{slice_get_within}
 use Rattle.std.proofs.lemmas.Bool.{cases_Bool, cases_lt, ltb-false, ltb-true, lt-ltb, leb-true, and_parts, false_from_ne_true}
 use Rattle.tp_base.specs.Rights.{rights_with, are_good}
-use Rattle.image_record.specs.Record.{Raw, RawSegment, IsRawSegment, InKeyRanges, raw_domain, no_raw_domain, no_raw_segment}
+use Rattle.image_record.specs.Record.{Raw, RawDomain, RawSegment, IsRawSegment, InKeyRanges, raw_domain, no_raw_domain, no_raw_segment}
 use Rattle.image_record.specs.declared.refusal.Refusal.{Refusal}
 use Rattle.image_record.specs.Cases.{first_in, refusal}
 use Rattle.domain_check.specs.declared.capabilities.InitialCap.TheVariants.{None as NoCap, Page, Irq}
 use Rattle.domain_check.specs.Segments.{k12, k12_domain, segment_case, entry_case, bytes_case, bytes_in, bytes_or_none, has_read, has_write, has_execute, rights_of, is_rights, share_page, k12_refusal}
 use Rattle.image_check.specs.Pages.{has_page}
 use Rattle.domain_check.specs.Capabilities.{cap_of}
-use Rattle.image_check.specs.Own.{Own, Segment, segment_of, own_from, owns_of, no_own, own_at, no_segment, has_line}
+use Rattle.image_check.specs.Own.{Own, Segment, segment_of, own_from, owns_from, owns_of, no_own, own_at, no_segment, has_line}
 use Rattle.image_check.specs.Laws.{KeepsBeforePads, IsSegment, IsOwn}
 use Rattle.schedule_check.specs.Interrupts.{k14, moment_of}
 use Rattle.irq_partition.specs.declared.Moment.{Moment}
@@ -27,12 +27,31 @@ use Rattle.image_record.proofs.FirstCases.{or_first, if_first, if_rest, first_in
 
 pub owns_length : (i : Raw) → length (owns_of i) ≡ length i.domains
 unfolding owns_of
-owns_length i = length-map i.domains own_from
+owns_length i = in_order 0 i.domains
+  where
+    in_order : (n : ℕ) (os : List RawDomain) → length (owns_from n os) ≡ length os
+    in_order n [] = refl
+    in_order n (o ∷ os) = ap suc (in_order (n + 1) os)
 
 pub owns_at : (i : Raw) (d : ℕ) → d < length i.domains
-    → own_at (owns_of i) d ≡ own_from (raw_domain i.domains d)
+    → own_at (owns_of i) d ≡ own_from d (raw_domain i.domains d)
 unfolding owns_of
-owns_at i d l = get_or-map own_from i.domains d no_raw_domain no_own l
+owns_at i d l =
+    let same : 0 + d ≡ d = omega arith in
+    in_order 0 i.domains d l ∙ ap (λ (n : ℕ). own_from n (raw_domain i.domains d)) same
+  where
+    in_order : (n : ℕ) (os : List RawDomain) (k : ℕ) → k < length os
+        → own_at (owns_from n os) k ≡ own_from (n + k) (raw_domain os k)
+    in_order n [] k l = absurd (omega (arith, l))
+    in_order n (o ∷ os) zero l = let same : n ≡ n + 0 = omega arith in ap (λ (m : ℕ). own_from m o) same
+    in_order n (o ∷ os) (suc k) l =
+        let same : n + 1 + k ≡ n + suc k = omega arith in
+        in_order (n + 1) os k (omega (arith, l)) ∙ ap (λ (m : ℕ). own_from m (raw_domain os k)) same
+
+-- each has its place as its number
+pub owns_numbered : (i : Raw) (d : ℕ) → d < length i.domains → (own_at (owns_of i) d).number ≡ d
+unfolding own_from
+owns_numbered i d l = ap (λ (o : Own). o.number) (owns_at i d l)
 
 -- ---- segments
 
@@ -194,7 +213,7 @@ segments_apart d ss none j k n less below here =
 -- ---- owns
 
 own_sound : (i : Raw) (d : ℕ) → InKeyRanges i → KeepsBeforePads i → d < length i.domains
-    → IsOwn (own_from (raw_domain i.domains d))
+    → IsOwn (own_from d (raw_domain i.domains d))
 unfolding k12 k12_domain own_from
 own_sound i d ranges rules l =
     let o = raw_domain i.domains d in
@@ -210,15 +229,16 @@ own_sound i d ranges rules l =
       segments = segments_sound place o.segments here (ranges.segments d);
       apart = segments_apart place o.segments here;
       few_caps = omega (arith, length-map o.caps cap_of, has.few);
-      pages = has_its_page o has;
-      page_once = λ j k m. named_once o has (Page m) (λ (z : Page m ≡ NoCap). cc) j k;
-      few_lines = few_lines o has irqs;
-      line_once = λ j k m. named_once o has (Irq m) (λ (z : Irq m ≡ NoCap). cc) j k;
+      pages = has_its_page d o has;
+      page_once = λ j k m. named_once d o has (Page m) (λ (z : Page m ≡ NoCap). cc) j k;
+      few_lines = few_lines d o has irqs;
+      line_once = λ j k m. named_once d o has (Irq m) (λ (z : Irq m ≡ NoCap). cc) j k;
       lines = line_below o irqs;
       few_moments = omega (arith, length-map o.moments moment_of, irqs.few);
       moments = moments_sound o irqs;
       early = early o irqs;
       own_lines = own_line o irqs;
+      listed = λ n may. may;
     }
 
 no_own_sound : IsOwn no_own
@@ -237,6 +257,7 @@ no_own_sound = record {
   moments = record { lines = λ k x e. absurd (no_moment k x e); ascend = λ j k x y less e. absurd (no_moment j x e) };
   early = λ k x e. absurd (no_moment k x e);
   own_lines = λ k x e. absurd (no_moment k x e);
+  listed = λ n may. may;
 }
   where
     no_page : (n : ℕ) → NoCap ≢ Page n
@@ -262,7 +283,7 @@ unfolding own_from
 lines_owned i k d e n l m other mine = false_from_ne_true (has_line (own_at (owns_of i) e) n) (λ theirs. either theirs (cases_lt e d))
   where
     raw : (c : ℕ) → c < length i.domains → has_line (own_at (owns_of i) c) n ≡ true
-        → has_line (own_from (raw_domain i.domains c)) n ≡ true
+        → has_line (own_from c (raw_domain i.domains c)) n ≡ true
     raw c below h = subst (λ (o : Own). has_line o n ≡ true) (owns_at i c below) h
 
     either : has_line (own_at (owns_of i) e) n ≡ true → (e < d) ⊎ (d ≤ e) → ⊥

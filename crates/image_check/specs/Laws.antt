@@ -21,6 +21,7 @@ use Rattle.domain_check.specs.Calls.{k18}
 use Rattle.image_record.specs.declared.refusal.Refusal.{Refusal}
 use Rattle.sched_table.specs.Schedule.{entry_in, entries_on, IsSchedule, AreHarts}
 use Rattle.pad_bound.specs.Bound.{IsShape, bound_of}
+use Rattle.pad_bound.specs.Worst.{AreWithin}
 use Rattle.image_check.specs.Pads.{shape_for, k17}
 use Rattle.schedule_check.specs.Harts.{k19}
 use Rattle.image_check.specs.Checking.{k8_in_machine, k10_in_machine, broken, broken_but_pads}
@@ -125,6 +126,7 @@ pub record IsOwn (o : Own) : Type 0 where
   pub moments : AreMoments o.moments
   pub early : (k : ℕ) (x : Moment) → slice_get o.moments k ≡ Some x → x.at ≤ 1000000000000
   pub own_lines : (k : ℕ) (x : Moment) → slice_get o.moments k ≡ Some x → has_line o x.line ≡ true
+  pub listed : AreWithin o.makes o.calls
 
 -- the bound on the switch after an entry's slot, by the calls of its domain
 abbrev pub bound_after : Image → ℕ → ℕ
@@ -144,6 +146,7 @@ pub record Runnable (i : Image) : Type 0 where
   pub harts : AreHarts i.all.schedule
   pub padded : (e : ℕ) → e < length i.all.schedule → bound_after i e ≤ (entry_in i.all.schedule e).pad
   pub sound : (d : ℕ) → IsOwn (own_of i d)
+  pub numbered : (d : ℕ) → d < length i.owns → (own_of i d).number ≡ d
   pub owned : (d e n : ℕ) → d < length i.owns → e < length i.owns → d ≢ e
       → has_line (own_of i d) n ≡ true → has_line (own_of i e) n ≡ false
 

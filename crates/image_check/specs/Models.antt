@@ -17,6 +17,7 @@ public_model p = record {
 
 abbrev pub own_model : Own → own_spec.Own
 own_model o = record {
+  number = o.number;
   name = string_bytes o.name;
   colours = o.colours.items;
   entry = o.entry;
@@ -25,4 +26,5 @@ own_model o = record {
   lines = o.lines.items;
   moments = o.moments.items;
   calls = o.calls;
+  makes = o.makes;
 }

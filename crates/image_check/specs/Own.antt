@@ -1,5 +1,5 @@
 -- What is one domain's own in an image.
-use Rattle.std.specs.Prelude.{ℕ, Bool, List, [], map, slice_index_or}
+use Rattle.std.specs.Prelude.{ℕ, ◌+◌, Bool, List, [], ◌∷◌, map, slice_index_or}
 use Rattle.std.specs.List.{All}
 use Rattle.irq_partition.specs.declared.Moment.{Moment}
 use Rattle.frame_colours.specs.Colours.{has}
@@ -15,6 +15,7 @@ use Rattle.domain_check.specs.Calls.{calls_in}
 use Rattle.kernel_clone.specs.Permissions.{every_call}
 
 pub record Own : Type 0 where
+  pub number : ℕ  -- its place in the image
   pub name : List ℕ
   pub colours : List ℕ  -- of its frames
   pub entry : ℕ  -- the address at which it begins
@@ -22,14 +23,16 @@ pub record Own : Type 0 where
   pub caps : List InitialCap  -- what each capability slot names as it begins
   pub lines : List ℕ  -- its interrupt lines
   pub moments : List Moment  -- when they interrupt it
-  pub calls : ℕ  -- those that it may make, a bit each
+  pub calls : ℕ  -- those that it lists, a bit each: its pads are bound by them
+  pub makes : ℕ  -- those that it may make in this image, a bit each
 
 -- the numbers of what its slots name fit those of the code
 pub record IsSmallOwn (o : RawDomain) : Type 0 where
   pub caps : All IsSmallCap (map cap_of o.caps)
 
-unfoldable pub own_from : RawDomain → Own
-own_from o = record {
+unfoldable pub own_from : ℕ → RawDomain → Own
+own_from n o = record {
+  number = n;
   name = o.name;
   colours = map natural_of o.colours;
   entry = o.entry;
@@ -38,13 +41,20 @@ own_from o = record {
   lines = map natural_of o.lines;
   moments = map moment_of o.moments;
   calls = calls_in o.calls;
+  makes = calls_in o.calls;
 }
 
+-- in their order, of which the first has this number
+abbrev pub owns_from : ℕ → List RawDomain → List Own
+owns_from n [] = []
+owns_from n (o ∷ os) = own_from n o ∷ owns_from (n + 1) os
+
 unfoldable pub owns_of : Raw → List Own
-owns_of i = map own_from i.domains
+owns_of i = owns_from 0 i.domains
 
 abbrev pub no_own : Own
 no_own = record {
+  number = 0;
   name = [];
   colours = [];
   entry = 0;
@@ -53,6 +63,7 @@ no_own = record {
   lines = [];
   moments = [];
   calls = every_call;
+  makes = every_call;
 }
 
 abbrev pub own_at : List Own → ℕ → Own

@@ -1,5 +1,5 @@
 // What is one domain's own.
-ghost use Rattle.std.specs.Prelude.{◌≡◌, [], map};
+ghost use Rattle.std.specs.Prelude.{◌≡◌, [], map, ◌≤◌, length};
 ghost use Rattle.std.specs.List.{All};
 ghost use Rattle.image_record.specs.Models.{raw_model};
 ghost use Rattle.image_record.specs.Parts.{domain_model};
@@ -18,6 +18,8 @@ use std::alloc::Global;
 /// What is one domain's own.
 #[derive(Drop)]
 pub struct Own {
+    /// Its place in the image, below 32.
+    pub number: u8,
     pub name: String,
     /// The colours of its frames.
     pub colours: Vec<u8>,
@@ -30,8 +32,11 @@ pub struct Own {
     pub lines: Vec<u8>,
     /// When its lines interrupt it, in their order; at most 1,024.
     pub moments: Vec<Moment>,
-    /// The calls that it may make, a bit each: bit n is that of call n.
+    /// The calls that it lists, a bit each: bit n is that of call n. Its pads are
+    /// bound by them.
     pub calls: u32,
+    /// The calls that it may make in this image, a bit each.
+    pub makes: u32,
 }
 
 /// What the rules let through of one domain.
@@ -81,14 +86,20 @@ impl DomainParts {
 }
 
 #[tactic(auto, unfolding(crate::specs::Own::own_from))]
-fn own_from(alloc: Global, domain: &RawDomain, part: DomainPart) -> Result<Own, CheckRefusal>
+fn own_from(
+    alloc: Global,
+    number: u8,
+    domain: &RawDomain,
+    part: DomainPart,
+) -> Result<Own, CheckRefusal>
     requires small { spec.IsSmallOwn (domain_model domain.now) }
     requires part { IsPartOf part (domain_model domain.now) }
-    ensures value { Makes own_model result (spec.own_from (domain_model domain.now)) }
+    ensures value { Makes own_model result (spec.own_from number (domain_model domain.now)) }
 {
     let name = String::from_str(alloc, domain.name.as_str())?;
     let caps = caps_from(alloc, part.caps.as_slice())?;
     Ok(Own {
+        number,
         name,
         colours: part.colours,
         entry: domain.entry,
@@ -97,6 +108,7 @@ fn own_from(alloc: Global, domain: &RawDomain, part: DomainPart) -> Result<Own, 
         lines: part.lines,
         moments: part.moments,
         calls: part.calls,
+        makes: part.calls,
     })
 }
 
@@ -106,13 +118,14 @@ fn owns_in(
     parts: &mut DomainParts,
 ) -> Result<Vec<Own>, CheckRefusal>
     requires small { All (λ o. spec.IsSmallOwn (domain_model o)) domains.now }
+    requires few { length domains.now ≤ 32 }
     requires parts { ArePartsOf parts.old (map domain_model domains.now) }
     ensures value { Makes (λ v. map own_model v.items) result
-        (map spec.own_from (map domain_model domains.now)) }
+        (spec.owns_from 0 (map domain_model domains.now)) }
 {
     let mut owns = Vec::new(alloc);
-    for domain in domains {
-        owns.push(own_from(alloc, domain, parts.take_first())?)?;
+    for (number, domain) in domains.iter().enumerate() {
+        owns.push(own_from(alloc, number as u8, domain, parts.take_first())?)?;
     }
     Ok(owns)
 }

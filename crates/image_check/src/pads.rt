@@ -61,6 +61,7 @@ pub fn shape_for(hardware: &Hardware, calls: u32) -> Shape
 }
 
 /// The same, where the domain may make every call.
+#[tactic(auto, unfolding(kernel_clone::specs::Permissions::calls_below))]
 pub fn shape_for_every_call(hardware: &Hardware) -> Shape
     requires line { 16 ≤ hardware.now.line }
     ensures value { shape_model result ≡ spec.shape_for_every_call (hardware_model hardware.now) }

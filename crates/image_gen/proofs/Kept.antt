@@ -29,8 +29,8 @@ use Rattle.domain_check.specs.CapTexts.{cap_in, number_after}
 use Rattle.domain_check.specs.Capabilities.{k13, k13_case, k13_domain}
 use Rattle.schedule_check.specs.Interrupts.{k14, k14_line, k15, k15_moment, k15_domain}
 use Rattle.domain_check.specs.Calls.{calls_in, k18, k18_domain}
-use Rattle.kernel_clone.specs.Permissions.{may_make, every_call}
-use Rattle.image_check.specs.Own.{own_from, owns_of, own_at}
+use Rattle.kernel_clone.specs.Permissions.{may_make, every_call, calls_below}
+use Rattle.image_check.specs.Own.{own_from, owns_from, owns_of, own_at}
 use Rattle.image_check.specs.Pads.{shape_for, bound_out_of, k17, k17_case, k17_entry}
 use Rattle.pad_bound.specs.Bound.{most_written, bound_of, worst_instruction, worst_operation, worst_leave, worst_prefetch, worst_flush, worst_enter}
 use Rattle.sched_table.specs.Schedule.{harts_in}
@@ -195,25 +195,25 @@ extensions_kept p ds es = refl
 bound_is : (p : List ℕ) (ds : List RawDomain) (es : List RawEntry)
     → bound_of (shape_for (hardware_of (image_with p ds es)) every_call) ≡ 6150
 unfolding image_with hardware_of cache_shape_of costs_of bound_of worst_instruction worst_operation
-    worst_leave worst_prefetch worst_flush worst_enter most_written may_make
+    worst_leave worst_prefetch worst_flush worst_enter most_written may_make calls_below
 bound_is p ds es = refl
 
 -- ---- calls
 
 module _ (h : ℕ → List ℕ) (m : ℕ → List RawMoment) where
-  every_one : (ks : List ℕ) (n : ℕ)
-      → (own_at (map own_from (map (λ d. domain_with d (h d) (m d)) ks)) n).calls ≡ every_call
+  every_one : (first : ℕ) (ks : List ℕ) (n : ℕ)
+      → (own_at (owns_from first (map (λ d. domain_with d (h d) (m d)) ks)) n).calls ≡ every_call
   unfolding own_from domain_with calls_in
-  every_one [] n = refl
-  every_one (k ∷ ks) zero = refl
-  every_one (k ∷ ks) (suc n) = every_one ks n
+  every_one first [] n = refl
+  every_one first (k ∷ ks) zero = refl
+  every_one first (k ∷ ks) (suc n) = every_one (first + 1) ks n
 
   bound_out : (p : List ℕ) (ks : List ℕ) (es : List RawEntry) (d : ℤ)
       → bound_out_of (image_with p (map (λ d. domain_with d (h d) (m d)) ks) es) d ≡ 6150
   unfolding bound_out_of owns_of image_with
   bound_out p ks es d =
       let ds = map (λ d. domain_with d (h d) (m d)) ks in
-      ap (λ (calls : ℕ). bound_of (shape_for (hardware_of (image_with p ds es)) calls)) (every_one ks (natural_of d)) ∙ bound_is p ds es
+      ap (λ (calls : ℕ). bound_of (shape_for (hardware_of (image_with p ds es)) calls)) (every_one 0 ks (natural_of d)) ∙ bound_is p ds es
 
 none_listed : (d : ℕ) (hex : List ℕ) (m : List RawMoment) (before : List RawDomain)
     → k18_domain before (domain_with d hex m) ≡ None

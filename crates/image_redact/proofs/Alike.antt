@@ -27,7 +27,7 @@ alike_law i d l =
     let many = long i d in
     record {
       all = sym (same_public i d);
-      own = owns_at i d l ∙ ap own_from (sym (kept_domain i d)) ∙ sym (owns_at (redacted i d) d (omega (arith, many, l)));
+      own = owns_at i d l ∙ ap (own_from d) (sym (kept_domain i d)) ∙ sym (owns_at (redacted i d) d (omega (arith, many, l)));
     }
 
 -- ---- once more

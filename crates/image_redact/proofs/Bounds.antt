@@ -1,5 +1,5 @@
 -- The bound on the switch out of an emptied domain's slot is no larger than it was.
-use Rattle.std.proofs.Common.{◌≡◌, ℕ, zero, suc, ◌+◌, ◌≤◌, Bool, true, false, List, [], ◌∷◌, map, Option, None, refl, sym, ap, subst, arith}
+use Rattle.std.proofs.Common.{◌≡◌, ℕ, zero, suc, ◌+◌, ◌≤◌, Bool, true, false, List, [], ◌∷◌, Option, None, refl, sym, ap, subst, arith}
 use Rattle.std.specs.Prelude.{ℤ, pos, negsuc, int_lt, nat_eq}
 use Rattle.std.proofs.lemmas.Bool.Decides.{nat_tests}
 use Rattle.cycle_cost.specs.Costs.{CostTable}
@@ -12,7 +12,7 @@ use Rattle.image_record.specs.Cases.{refusal}
 use Rattle.image_record.proofs.FirstCases.{if_first}
 use Rattle.hardware_check.specs.Hardware.{Hardware}
 use Rattle.domain_check.specs.Calls.{calls_in}
-use Rattle.image_check.specs.Own.{own_from, own_at}
+use Rattle.image_check.specs.Own.{own_from, owns_from, own_at}
 use Rattle.image_check.specs.Pads.{shape_for, k17_case}
 use Rattle.image_redact.specs.Redacted.{exit_alone, emptied}
 use Rattle.image_redact.proofs.Lists.{at, from, at_either, Placed}
@@ -70,14 +70,14 @@ exit_alone_least false version calls later none =
 
 module _ (v d : ℕ) (kept : List ℕ) where
   one_least : (n : ℕ) (o : RawDomain) → (v ≡ 1 → o.calls ≡ None)
-      → NoMore (own_from (at v d kept n o)).calls (own_from o).calls
+      → NoMore (own_from n (at v d kept n o)).calls (own_from n o).calls
   unfolding own_from emptied
   one_least n o says =
-      at_either v d kept (λ x. NoMore (own_from x).calls (own_from o).calls) n o (λ here. same_calls _ _ refl)
+      at_either v d kept (λ x. NoMore (own_from n x).calls (own_from n o).calls) n o (λ here. same_calls _ _ refl)
       (λ there. exit_alone_least (nat_eq v 1) v o.calls refl says)
 
   pub each_least : (n : ℕ) (os : List RawDomain) → Placed (λ k o. v ≡ 1 → o.calls ≡ None) n os → (k : ℕ)
-      → NoMore (own_at (map own_from (from v d kept n os)) k).calls (own_at (map own_from os) k).calls
+      → NoMore (own_at (owns_from n (from v d kept n os)) k).calls (own_at (owns_from n os) k).calls
   each_least n [] all k = same_calls _ _ refl
   each_least n (o ∷ os) all zero = one_least n o all.0
   each_least n (o ∷ os) all (suc k) = each_least (n + 1) os all.1 k

@@ -43,11 +43,12 @@ refusal number e d memory readings replies x m r h is =
 
 -- a domain with other slots and another pool
 pub has_slots : (e : Estate) (old new : Domain) (caps : Slots) → Has e old → new.map ≡ old.map
-    → new.calls ≡ old.calls → new.caps ≡ caps
+    → new.calls ≡ old.calls → new.number ≡ old.number → new.caps ≡ caps
     → length caps ≡ 64 → new.pool ≡ free_of e caps → Has e new
-has_slots e old new caps h map calls is long pool = record {
+has_slots e old new caps h map calls number is long pool = record {
   root = map ∙ h.root;
   calls = calls ∙ h.calls;
+  number = number ∙ h.number;
   pool = pool ∙ ap (free_of e) (sym is);
   slots = ap length is ∙ long;
 }
@@ -175,9 +176,9 @@ module _ (e : Estate) (old new : Domain) (memory : Contents) (readings : List �
     module _ (kind : b ≤ 1) where
       -- the pool is taken of, and nothing came
       pub ends_none : (x : CallError) → code_of x ≡ 10 → slice_get old.pool.free 0 ≡ None → new.map ≡ old.map
-          → new.calls ≡ old.calls → new.caps ≡ old.caps → new.pool ≡ without_least old.pool
+          → new.calls ≡ old.calls → new.number ≡ old.number → new.caps ≡ old.caps → new.pool ≡ without_least old.pool
           → Ends 2 e old new memory readings replies (Err x) (alloc e model a b m)
-      ends_none x is none map calls caps pool =
+      ends_none x is none map calls number caps pool =
           let run : alloc e model a b m ≡ reads m (inl (refused (code_of x) model)) =
           alloc_none e model a b m below not_filled kind (sym (pool_least e memory m old h) ∙ none)
           ∙ ap (λ (n : ℕ). reads m (inl (refused n model))) (sym is) in
@@ -186,7 +187,7 @@ module _ (e : Estate) (old new : Domain) (memory : Contents) (readings : List �
             value = refl;
             holds = h.holds;
             work = refl;
-            has = has_slots e old new old.caps h.has map calls caps h.has.slots (pool ∙ none_stays old.pool none ∙ h.has.pool);
+            has = has_slots e old new old.caps h.has map calls number caps h.has.slots (pool ∙ none_stays old.pool none ∙ h.has.pool);
           })
 
       pub ends_taken : (f : ℕ) (memory' : Contents) (caps : Slots) (pool : FreeList) (x : Done)

@@ -24,6 +24,7 @@ rest_of d caps map pool room same = record {
   kept = refl;
   layout = refl;
   calls = refl;
+  number = refl;
   retired = refl;
   readings = refl;
   replies = refl;

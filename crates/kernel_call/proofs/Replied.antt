@@ -25,6 +25,7 @@ keeps_replied old mid new rest keeps = record {
   kept = keeps.kept ∙ rest.kept;
   layout = keeps.layout ∙ rest.layout;
   calls = keeps.calls ∙ rest.calls;
+  number = keeps.number ∙ rest.number;
   moments = keeps.moments ∙ ap (λ (i : Interrupts). i.moments) rest.interrupts;
   delivered = keeps.delivered ∙ ap (λ (i : Interrupts). i.delivered) rest.interrupts;
   retired = keeps.retired ∙ rest.retired;

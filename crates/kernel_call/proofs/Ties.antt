@@ -157,22 +157,24 @@ module _ (e : Estate) (caps : Slots) (long : length caps ≡ 64) (a : ℕ) (x : 
       (λ f named. (a, here ∙ named))
 
 pub has_set : (e : Estate) (old new : Domain) (a : ℕ) (x : Option Cap) → Has e old → new.map ≡ old.map
-    → new.calls ≡ old.calls
+    → new.calls ≡ old.calls → new.number ≡ old.number
     → new.pool ≡ old.pool → new.caps ≡ with_cap old.caps a x → free_frames e (with_cap old.caps a x) ≡ free_frames e old.caps → Has e new
-has_set e old new a x h map calls same_pool caps free = record {
+has_set e old new a x h map calls number same_pool caps free = record {
   root = map ∙ h.root;
   calls = calls ∙ h.calls;
+  number = number ∙ h.number;
   pool = same_pool ∙ h.pool ∙ ap (λ (fs : List ℕ). record { share = e.share; free = fs }) (sym (ap (free_frames e) caps ∙ free));
   slots = ap length caps ∙ long_set old.caps h.slots a x;
 }
 
 -- the parts that hold the facts are as they were
 pub has_still : (e : Estate) (old new : Domain) → Has e old → new.map ≡ old.map → new.calls ≡ old.calls
-    → new.pool ≡ old.pool
+    → new.number ≡ old.number → new.pool ≡ old.pool
     → new.caps ≡ old.caps → Has e new
-has_still e old new h map calls same_pool caps = record {
+has_still e old new h map calls number same_pool caps = record {
   root = map ∙ h.root;
   calls = calls ∙ h.calls;
+  number = number ∙ h.number;
   pool = same_pool ∙ h.pool ∙ ap (λ (fs : List ℕ). record { share = e.share; free = fs }) (sym (ap (free_frames e) caps));
   slots = ap length caps ∙ h.slots;
 }

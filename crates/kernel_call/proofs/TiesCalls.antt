@@ -14,6 +14,8 @@ use Rattle.kernel_clone.specs.declared.operation.Call.TheVariants as call
 use Rattle.kernel_clone.specs.Footprints.{WorkDone, call_number, bad_call_op}
 use Rattle.kernel_clone.specs.declared.Work.{Work}
 use Rattle.kernel_clone.specs.Models.{work_model, IsWork}
+use Rattle.kernel_clone.specs.Permissions.{is_call, is_of_memory}
+use Rattle.kernel_clone.proofs.CallLaws.{differ}
 use Rattle.cap_table.specs.Slots.{Slots}
 use Rattle.call_table.specs.Domain.{Dom, reply_past, placed, replied}
 use Rattle.call_table.specs.Claims.{Estate, is_mine, claims, Facts}
@@ -45,24 +47,24 @@ performed number k e old new memory readings replies m result a b c r is same en
     (subst (λ (r : act.Done Mem Note Dom Dom). Ends k e old new memory readings replies result r) (sym same) ends)
 
 -- the last call on memory, where it is none of the others
-pub last_on_memory : (c : Call) → 0 < call_number c → call_number c ≤ 8 → c ≢ call.Put → c ≢ call.Alloc
+pub last_on_memory : (c : Call) → is_of_memory (call_number c) ≡ true → c ≢ call.Put → c ≢ call.Alloc
     → c ≢ call.Table → c ≢ call.Map
     → c ≢ call.Unmap → c ≢ call.Copy → c ≢ call.Delete → call_number c ≡ 8
-last_on_memory call.Exit some few p a t m u k d = absurd (omega (arith, some))
-last_on_memory call.Put some few p a t m u k d = absurd (p refl)
-last_on_memory call.Alloc some few p a t m u k d = absurd (a refl)
-last_on_memory call.Table some few p a t m u k d = absurd (t refl)
-last_on_memory call.Map some few p a t m u k d = absurd (m refl)
-last_on_memory call.Unmap some few p a t m u k d = absurd (u refl)
-last_on_memory call.Copy some few p a t m u k d = absurd (k refl)
-last_on_memory call.Delete some few p a t m u k d = absurd (d refl)
-last_on_memory call.Revoke some few p a t m u k d = refl
-last_on_memory call.Poll some few p a t m u k d = absurd (omega (arith, few))
-last_on_memory call.Wait some few p a t m u k d = absurd (omega (arith, few))
-last_on_memory call.Signal some few p a t m u k d = absurd (omega (arith, few))
-last_on_memory call.Spawn some few p a t m u k d = absurd (omega (arith, few))
-last_on_memory call.Yield some few p a t m u k d = absurd (omega (arith, few))
-last_on_memory call.EndThread some few p a t m u k d = absurd (omega (arith, few))
+last_on_memory call.Exit on p a t m u k d = absurd (cc on)
+last_on_memory call.Put on p a t m u k d = absurd (p refl)
+last_on_memory call.Alloc on p a t m u k d = absurd (a refl)
+last_on_memory call.Table on p a t m u k d = absurd (t refl)
+last_on_memory call.Map on p a t m u k d = absurd (m refl)
+last_on_memory call.Unmap on p a t m u k d = absurd (u refl)
+last_on_memory call.Copy on p a t m u k d = absurd (k refl)
+last_on_memory call.Delete on p a t m u k d = absurd (d refl)
+last_on_memory call.Revoke on p a t m u k d = refl
+last_on_memory call.Poll on p a t m u k d = absurd (cc on)
+last_on_memory call.Wait on p a t m u k d = absurd (cc on)
+last_on_memory call.Signal on p a t m u k d = absurd (cc on)
+last_on_memory call.Spawn on p a t m u k d = absurd (cc on)
+last_on_memory call.Yield on p a t m u k d = absurd (cc on)
+last_on_memory call.EndThread on p a t m u k d = absurd (cc on)
 
 -- the operation of a call's number is its own, and that of any other number one of a bad call
 pub own_op : (c : Call) → op_of (call_number c) ≡ call_number c
@@ -82,18 +84,19 @@ own_op call.Spawn = refl
 own_op call.Yield = refl
 own_op call.EndThread = refl
 
-pub bad_op : (number : ℕ) → 14 < number → op_of number ≡ bad_call_op
-bad_op number above = ap (λ (b : Bool). if b then number else bad_call_op) (lt-leb number 14 above)
+pub bad_op : (number : ℕ) → is_call number ≡ false → op_of number ≡ bad_call_op
+bad_op number none = ap (λ (b : Bool). if b then number else bad_call_op) none
 
 -- ---- the facts after a call
 
 -- the parts that hold the facts are as they were
 pub facts_still : (e : Estate) (memory : Contents) (m : Mem) (old new : Domain) → HasFacts e memory m old
-    → new.map ≡ old.map → new.calls ≡ old.calls → new.pool ≡ old.pool → new.caps ≡ old.caps → HasFacts e memory m new
-facts_still e memory m old new h map calls pool caps = record {
+    → new.map ≡ old.map → new.calls ≡ old.calls → new.number ≡ old.number → new.pool ≡ old.pool → new.caps ≡ old.caps
+    → HasFacts e memory m new
+facts_still e memory m old new h map calls number pool caps = record {
   estate = h.estate;
   frames = h.frames;
-  has = has_still e old new h.has map calls pool caps;
+  has = has_still e old new h.has map calls number pool caps;
   holds = h.holds;
   facts = subst (λ (s : Slots). Facts e.root (is_mine e) (claims e s) m) (sym caps) h.facts;
 }
@@ -138,18 +141,13 @@ module _ (number : ℕ) (e : Estate) (old new : Domain) (memory next : Contents)
 
 -- the operation of a call says as much of the buffer as its number
 clears_op : (number : ℕ) → clears_entries (op_of number) ≡ clears_entries number
-clears_op number = by_test (nat_le number 14) refl
+clears_op number = by_test (is_call number) refl
   where
-    by_test : (b : Bool) → nat_le number 14 ≡ b
+    by_test : (b : Bool) → is_call number ≡ b
         → clears_entries (if b then number else bad_call_op) ≡ clears_entries number
-    by_test true small = refl
-    by_test false large =
-        let above : 14 < number = leb-false number 14 large in
-        rw (
-          ne_eqb number 5 (λ e. absurd (omega (arith, above, e))),
-          ne_eqb number 7 (λ e. absurd (omega (arith, above, e))),
-          ne_eqb number 8 (λ e. absurd (omega (arith, above, e))),
-        ) refl
+    by_test true is = refl
+    by_test false none =
+        rw (differ number 5 false none refl, differ number 7 false none refl, differ number 8 false none refl) refl
 
 pub same_buffer : (number op : ℕ) (reply : Option Reply) → op ≡ op_of number
     → empties_buffer op reply ≡ empties_buffer number reply

@@ -12,6 +12,7 @@ use Rattle.cap_table.specs.declared.Cap.{Cap}
 use Rattle.cap_table.specs.declared.Cap.TheVariants as cap
 use Rattle.cap_table.specs.Slots.{Slots, cap_at, with_cap}
 use Rattle.kernel_clone.specs.Footprints.{WorkDone, bad_call_op}
+use Rattle.kernel_clone.specs.Permissions.{is_call}
 use Rattle.call_table.specs.Domain.{Dom, done, refused}
 use Rattle.call_table.specs.Claims.{Estate, frame_of, claim_of, free_frames}
 use Rattle.call_table.specs.Calls.{Note, filled, page_in, table_in, may_give, error_of, map_page, install, unmap, map_at, unmap_at, install_at, empty_buffer, with_slot, op_of, work_of, zeroed_in, entries_in}
@@ -45,28 +46,28 @@ some_or_other (Some b) x a e = ap Some (cc e)
 
 -- ---- what is told of their work
 
-op_small : (number : ℕ) → nat_le number 14 ≡ true → op_of number ≡ number
-op_small number small = ap (λ (b : Bool). if b then number else bad_call_op) small
+op_kept : (number : ℕ) → is_call number ≡ true → op_of number ≡ number
+op_kept number call = ap (λ (b : Bool). if b then number else bad_call_op) call
 
-pub tells_nothing : (number : ℕ) (w : WorkDone) → nat_le number 14 ≡ true
+pub tells_nothing : (number : ℕ) (w : WorkDone) → is_call number ≡ true
     → w ≡ record { op = number; zeroed = None; entries = [] }
     → w ≡ work_of number []
 unfolding work_of zeroed_in entries_in
-tells_nothing number w small is =
-    is ∙ ap (λ (op : ℕ). record { op = op; zeroed = None; entries = [] }) (sym (op_small number small))
+tells_nothing number w call is =
+    is ∙ ap (λ (op : ℕ). record { op = op; zeroed = None; entries = [] }) (sym (op_kept number call))
 
-pub tells_entry : (number entry at : ℕ) (w : WorkDone) → nat_le number 14 ≡ true
+pub tells_entry : (number entry at : ℕ) (w : WorkDone) → is_call number ≡ true
     → w ≡ record { op = number; zeroed = None; entries = entry ∷ [] }
     → entry ≡ at → w ≡ work_of number (Note.Entry at ∷ [])
 unfolding work_of zeroed_in entries_in
-tells_entry number entry at w small is same =
-    is ∙ ap₂ (λ (op at : ℕ). record { op = op; zeroed = None; entries = at ∷ [] }) (sym (op_small number small)) same
+tells_entry number entry at w call is same =
+    is ∙ ap₂ (λ (op at : ℕ). record { op = op; zeroed = None; entries = at ∷ [] }) (sym (op_kept number call)) same
 
-pub tells_entry_emptied : (number entry at : ℕ) (w : WorkDone) → nat_le number 14 ≡ true
+pub tells_entry_emptied : (number entry at : ℕ) (w : WorkDone) → is_call number ≡ true
     → w ≡ record { op = number; zeroed = None; entries = entry ∷ [] } → entry ≡ at → w ≡ work_of number (Note.Entry at ∷ Note.Emptied ∷ [])
 unfolding work_of zeroed_in entries_in
-tells_entry_emptied number entry at w small is same =
-    is ∙ ap₂ (λ (op at : ℕ). record { op = op; zeroed = None; entries = at ∷ [] }) (sym (op_small number small)) same
+tells_entry_emptied number entry at w call is same =
+    is ∙ ap₂ (λ (op at : ℕ). record { op = op; zeroed = None; entries = at ∷ [] }) (sym (op_kept number call)) same
 
 -- ---- noting an address changes no frame's claim
 

@@ -16,6 +16,8 @@ use Rattle.call_table.specs.Domain.{Dom, reply_past, recorded, replied, done, re
 use Rattle.call_table.specs.Claims.{Estate}
 use Rattle.kernel_clone.specs.Footprints.{call_number}
 use Rattle.kernel_clone.specs.declared.operation.Call.{Call}
+use Rattle.kernel_clone.specs.Permissions.{is_call, is_of_memory}
+use Rattle.kernel_clone.proofs.CallLaws.{differ}
 use Rattle.kernel_clone.specs.declared.operation.Call.TheVariants as call
 use Rattle.call_table.specs.Calls.{Note, Act, filled, line_in, line_at, bit_value, poll, waited, wait, signal, spawn, call_of}
 use Rattle.call_table.specs.declared.Reply.{Reply}
@@ -247,43 +249,43 @@ answered_by number k e d a b c m before reply new r is same h =
     (subst (IsAnswered m before reply new) (sym same) h)
 
 -- the last call that leaves memory alone, where it is none of the others
-pub last_without_memory : (c : Call) → (0 < call_number c → 8 < call_number c) → c ≢ call.Exit → c ≢ call.Poll
+pub last_without_memory : (c : Call) → is_of_memory (call_number c) ≡ false → c ≢ call.Exit → c ≢ call.Poll
     → c ≢ call.Wait → c ≢ call.Signal
     → c ≢ call.Spawn → c ≢ call.Yield → call_number c ≡ 14
-last_without_memory call.Exit later x p w s n y = absurd (x refl)
-last_without_memory call.Put later x p w s n y = let above = later (omega arith) in absurd (omega (arith, above))
-last_without_memory call.Alloc later x p w s n y = let above = later (omega arith) in absurd (omega (arith, above))
-last_without_memory call.Table later x p w s n y = let above = later (omega arith) in absurd (omega (arith, above))
-last_without_memory call.Map later x p w s n y = let above = later (omega arith) in absurd (omega (arith, above))
-last_without_memory call.Unmap later x p w s n y = let above = later (omega arith) in absurd (omega (arith, above))
-last_without_memory call.Copy later x p w s n y = let above = later (omega arith) in absurd (omega (arith, above))
-last_without_memory call.Delete later x p w s n y = let above = later (omega arith) in absurd (omega (arith, above))
-last_without_memory call.Revoke later x p w s n y = let above = later (omega arith) in absurd (omega (arith, above))
-last_without_memory call.Poll later x p w s n y = absurd (p refl)
-last_without_memory call.Wait later x p w s n y = absurd (w refl)
-last_without_memory call.Signal later x p w s n y = absurd (s refl)
-last_without_memory call.Spawn later x p w s n y = absurd (n refl)
-last_without_memory call.Yield later x p w s n y = absurd (y refl)
-last_without_memory call.EndThread later x p w s n y = refl
+last_without_memory call.Exit other x p w s n y = absurd (x refl)
+last_without_memory call.Put other x p w s n y = absurd (cc other)
+last_without_memory call.Alloc other x p w s n y = absurd (cc other)
+last_without_memory call.Table other x p w s n y = absurd (cc other)
+last_without_memory call.Map other x p w s n y = absurd (cc other)
+last_without_memory call.Unmap other x p w s n y = absurd (cc other)
+last_without_memory call.Copy other x p w s n y = absurd (cc other)
+last_without_memory call.Delete other x p w s n y = absurd (cc other)
+last_without_memory call.Revoke other x p w s n y = absurd (cc other)
+last_without_memory call.Poll other x p w s n y = absurd (p refl)
+last_without_memory call.Wait other x p w s n y = absurd (w refl)
+last_without_memory call.Signal other x p w s n y = absurd (s refl)
+last_without_memory call.Spawn other x p w s n y = absurd (n refl)
+last_without_memory call.Yield other x p w s n y = absurd (y refl)
+last_without_memory call.EndThread other x p w s n y = refl
 
-pub bad_call : (e : Estate) (d : Dom) (m : Mem) (number a b c : ℕ) → 14 < number
+pub bad_call : (e : Estate) (d : Dom) (m : Mem) (number a b c : ℕ) → is_call number ≡ false
     → call_of e d number a b c m ≡ reads m (inl (refused 1 d))
 unfolding call_of stop
-bad_call e d m number a b c above =
+bad_call e d m number a b c none =
     rw (
-      ne_eqb number 0 (λ e. absurd (omega (arith, above, e))),
-      ne_eqb number 1 (λ e. absurd (omega (arith, above, e))),
-      ne_eqb number 2 (λ e. absurd (omega (arith, above, e))),
-      ne_eqb number 3 (λ e. absurd (omega (arith, above, e))),
-      ne_eqb number 4 (λ e. absurd (omega (arith, above, e))),
-      ne_eqb number 5 (λ e. absurd (omega (arith, above, e))),
-      ne_eqb number 6 (λ e. absurd (omega (arith, above, e))),
-      ne_eqb number 7 (λ e. absurd (omega (arith, above, e))),
-      ne_eqb number 8 (λ e. absurd (omega (arith, above, e))),
-      ne_eqb number 9 (λ e. absurd (omega (arith, above, e))),
-      ne_eqb number 10 (λ e. absurd (omega (arith, above, e))),
-      ne_eqb number 11 (λ e. absurd (omega (arith, above, e))),
-      ne_eqb number 12 (λ e. absurd (omega (arith, above, e))),
-      ne_eqb number 13 (λ e. absurd (omega (arith, above, e))),
-      ne_eqb number 14 (λ e. absurd (omega (arith, above, e))),
+      differ number 0 false none refl,
+      differ number 1 false none refl,
+      differ number 2 false none refl,
+      differ number 3 false none refl,
+      differ number 4 false none refl,
+      differ number 5 false none refl,
+      differ number 6 false none refl,
+      differ number 7 false none refl,
+      differ number 8 false none refl,
+      differ number 9 false none refl,
+      differ number 10 false none refl,
+      differ number 11 false none refl,
+      differ number 12 false none refl,
+      differ number 13 false none refl,
+      differ number 14 false none refl,
     ) refl

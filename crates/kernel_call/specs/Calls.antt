@@ -46,6 +46,7 @@ pub record KeepsParts (old new : Domain) : Type 0 where
   pub kept : new.kept ≡ old.kept
   pub layout : new.layout ≡ old.layout
   pub calls : new.calls ≡ old.calls
+  pub number : new.number ≡ old.number
   pub moments : new.interrupts.moments ≡ old.interrupts.moments
   pub delivered : new.interrupts.delivered ≡ old.interrupts.delivered
   pub retired : new.retired ≡ old.retired

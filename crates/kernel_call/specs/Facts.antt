@@ -30,6 +30,7 @@ pub record Has (e : Estate) (d : Domain) : Type 0 where
   pub pool : d.pool ≡ pool_of e d
   pub slots : length d.caps ≡ 64
   pub calls : d.calls ≡ e.calls
+  pub number : d.number ≡ e.number
 
 -- the facts of frames and page tables hold of it in a memory
 pub record HasFacts (e : Estate) (memory : Contents) (m : Mem) (d : Domain) : Type 0 where
@@ -57,6 +58,7 @@ pub record KeepsRest (old new : Domain) : Type 0 where
   pub kept : new.kept ≡ old.kept
   pub layout : new.layout ≡ old.layout
   pub calls : new.calls ≡ old.calls
+  pub number : new.number ≡ old.number
   pub retired : new.retired ≡ old.retired
   pub readings : new.readings ≡ old.readings
   pub replies : new.replies ≡ old.replies

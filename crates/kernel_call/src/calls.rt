@@ -1,8 +1,8 @@
 // The kernel call that a domain makes.
-ghost use Rattle.std.specs.Prelude.{◌≡◌, ◌≢◌, ◌^◌, ◌<◌, ◌≤◌, ◌||◌, nat_eq, nat_lt, true, IfErr, IfNone, IfSome, slice_index};
+ghost use Rattle.std.specs.Prelude.{◌≡◌, ◌≢◌, ◌^◌, ◌<◌, ◌≤◌, not, true, false, IfErr, IfNone, IfSome, slice_index};
 ghost use Rattle.kernel_clone.specs.Footprints.{call_number};
 ghost use Rattle.kernel_clone.specs.Models.{work_model, IsWork};
-ghost use Rattle.kernel_clone.specs.Permissions.{may_make, permitted as spec_permitted};
+ghost use Rattle.kernel_clone.specs.Permissions.{is_call, is_of_memory, may_make, permitted as spec_permitted};
 ghost use Rattle.pad_bound.specs.Worst.{IsCallWork, IsPermitted};
 ghost use Rattle.thread_set.specs.Threads.{is_ready};
 ghost use Rattle.call_table.specs.Calls as spec;
@@ -39,7 +39,7 @@ fn put_byte(domain: &mut Domain, memory: &PhysMem, a: u32) -> Result<u32, CallEr
 // Whether a call leaves memory, frames and slots alone: one that ends the
 // domain, or is on interrupt lines or threads.
 fn leaves_memory(call: Call) -> bool
-    ensures value { result ≡ (nat_eq (call_number call) 0 || nat_lt 8 (call_number call)) }
+    ensures value { result ≡ not (is_of_memory (call_number call)) }
 {
     !matches!(
         call,
@@ -64,8 +64,7 @@ fn perform(
     args: [u32; 3],
 ) -> Result<u32, CallError>
     requires valid { Valid memory.old domain.old }
-    requires first { 0 < call_number call }
-    requires last { call_number call ≤ 8 }
+    requires on_memory { is_of_memory (call_number call) ≡ true }
     requires fresh { work_model work.old ≡ nothing (call_number call) }
     ensures does { Does (call_number call)
         (λ e d. spec.call_of e d (call_number call)
@@ -131,14 +130,14 @@ fn make(domain: &mut Domain, memory: &mut PhysMem, call: Call, args: [u32; 3]) -
 fn permitted(calls: u32, number: u32) -> Option<Call>
     ensures number { IfSome result (λ call. call_number call ≡ spec_permitted calls number) }
     ensures allowed { IfSome result (λ call. may_make calls (call_number call) ≡ true) }
-    ensures none { IfNone result (14 < spec_permitted calls number) }
+    ensures none { IfNone result (is_call (spec_permitted calls number) ≡ false) }
 {
     let call = Call::of(number)?;
     if call.is_in(calls) { Some(call) } else { None }
 }
 
 /// The kernel call with this number and these arguments, of the domain's
-/// current thread, which must be ready. A number above 14, or of a call that the
+/// current thread, which must be ready. A number of no call, or of a call that the
 /// domain may not make, is a bad call. Takes no memory.
 pub fn call(domain: &mut Domain, memory: &mut PhysMem, number: u32, args: [u32; 3]) -> Outcome
     requires valid { Valid memory.old domain.old }

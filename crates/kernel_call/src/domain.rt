@@ -38,6 +38,8 @@ pub struct Domain {
     pub layout: CloneLayout,
     /// The calls that it may make, a bit each: bit n is that of call n.
     pub calls: u32,
+    /// Its number in the image.
+    pub number: u8,
     /// Instructions.
     pub retired: u64,
     /// Of the counters.
@@ -61,6 +63,8 @@ pub struct Beginning {
     pub layout: CloneLayout,
     /// The calls that it may make, a bit each.
     pub calls: u32,
+    /// Its number in the image.
+    pub number: u8,
 }
 
 impl Domain {
@@ -81,6 +85,7 @@ impl Domain {
         ensures threads { IfOk result (λ d. d.threads ≡ begin.threads) }
         ensures layout { IfOk result (λ d. d.layout ≡ begin.layout) }
         ensures calls { IfOk result (λ d. d.calls ≡ begin.calls) }
+        ensures number { IfOk result (λ d. d.number ≡ begin.number) }
     {
         let (readings, replies, printed) = logs(alloc)?;
         Ok(Domain {
@@ -94,6 +99,7 @@ impl Domain {
             kept: begin.kept,
             layout: begin.layout,
             calls: begin.calls,
+            number: begin.number,
             retired: 0,
             readings,
             replies,

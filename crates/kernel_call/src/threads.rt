@@ -1,9 +1,10 @@
 // Calls that leave memory alone: EXIT, and those on interrupt lines and on
 // threads. Deliveries of interrupts.
-ghost use Rattle.std.specs.Prelude.{◌≡◌, ◌≢◌, ℕ, ◌+◌, ◌^◌, ◌<◌, ◌≤◌, true, [], length, slice_index, Some, None, IfSome, option_map};
+ghost use Rattle.std.specs.Prelude.{◌≡◌, ◌≢◌, ℕ, ◌+◌, ◌^◌, ◌<◌, ◌≤◌, true, false, [], length, slice_index, Some, None, IfSome, option_map};
 ghost use Rattle.phys_mem.specs.Contents.{Contents};
 ghost use Rattle.kernel_clone.specs.Footprints.{call_number};
 ghost use Rattle.kernel_clone.specs.Models.{work_model, IsWork};
+ghost use Rattle.kernel_clone.specs.Permissions.{is_of_memory};
 ghost use Rattle.pad_bound.specs.Worst.{IsCallWork};
 ghost use Rattle.thread_set.specs.Threads.{is_ready};
 ghost use Rattle.irq_partition.specs.Interrupts.{next_of};
@@ -27,7 +28,7 @@ use kernel_clone::{Call, DELIVERY, Work};
 pub fn call_without_memory(domain: &mut Domain, call: Call, args: [u32; 3]) -> Option<Reply>
     requires ready { is_ready domain.old.threads.active.state ≡ true }
     requires replies { domain.old.replies.count < 2 ^ 63 }
-    requires others { 0 < call_number call → 8 < call_number call }
+    requires others { is_of_memory (call_number call) ≡ false }
     ensures answers { Answers
         (λ e d. spec.call_of e d (call_number call)
         (slice_index args 0) (slice_index args 1) (slice_index args 2))

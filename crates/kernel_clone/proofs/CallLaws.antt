@@ -1,10 +1,11 @@
 -- Which calls may be made, bit by bit.
-use Rattle.std.proofs.Common.{◌≡◌, ◌∙◌, ◌<◌, ◌≤◌, ◌+◌, ◌-◌, ◌*◌, ◌/◌, ◌%◌, ◌^◌, ℕ, zero, suc, Bool, true, false, ap, subst, refl, arith, lit≤, inl, inr}
-use Rattle.std.specs.Prelude.{nat_eq, if◌then◌else◌}
-use Rattle.std.proofs.lemmas.Bool.{cases_lt}
+use Rattle.std.proofs.Common.{◌≡◌, ◌∙◌, ◌<◌, ◌≤◌, ◌+◌, ◌-◌, ◌*◌, ◌/◌, ◌%◌, ◌^◌, ℕ, zero, suc, Bool, true, false, ap, sym, subst, refl, arith, lit≤, inl, inr, ne_eqb}
+use Rattle.std.specs.Prelude.{nat_eq, not, ◌&&◌, if◌then◌else◌}
+use Rattle.std.proofs.lemmas.Bool.{cases_lt, lt-leb}
 use Rattle.std.proofs.lemmas.Nat.{pow-add, pow_pos, div-mul-add}
-use Rattle.std.proofs.Math.Nat.{pow-suc, add-mul-div_left}
-use Rattle.kernel_clone.specs.Permissions.{may_make, every_call, calls_below, calls_of, EveryCallLaw, CallsLaw}
+use Rattle.std.proofs.Math.Nat.{pow-suc, add-mul-div_left, div-eq_of_lt}
+use Rattle.std.proofs.Math.Pow.{pow_mono}
+use Rattle.kernel_clone.specs.Permissions.{is_call, calls_end, may_make, calls_below, EveryCallLaw, CallsLaw}
 
 pub few_below : (test : ℕ → Bool) (n : ℕ) → calls_below test n < 2 ^ n
 unfolding calls_below
@@ -51,12 +52,32 @@ bits test (suc m) n lt = elim (cases_lt n m) [
       (bit_at (calls_below test m) m (test m) (few_below test m))
 ]
 
-pub calls_are : CallsLaw
-calls_are test n lt = bits test 15 n lt
+-- numbers below 2^m have no bit from m on
+none_above : (low m n : ℕ) → low < 2 ^ m → m ≤ n → may_make low n ≡ false
+unfolding may_make
+none_above low m n few past =
+    let most = pow_mono {i = m} {j = n} past in
+    ap (λ (q : ℕ). nat_eq (q % 2) 1) (div-eq_of_lt {n = low} {m = 2 ^ n} (omega (arith, few, most)))
 
-every_is : calls_of (λ n. true) ≡ every_call
-unfolding calls_below
-every_is = refl
+-- a test that no number from the end on passes
+within : (test : ℕ → Bool) (m n : ℕ) → (m ≤ n → test n ≡ false) → may_make (calls_below test m) n ≡ test n
+within test m n none = elim (cases_lt n m) [
+  | inl below ↦ bits test m n below
+  | inr past ↦ none_above (calls_below test m) m n (few_below test m) past ∙ sym (none past)
+]
+
+-- what is past the end is no call
+no_call : (n : ℕ) → calls_end ≤ n → is_call n ≡ false
+no_call n past = lt-leb n 14 (omega (arith, past))
+
+pub calls_are : CallsLaw
+calls_are test n =
+    within (λ k. is_call k && test k) calls_end n (λ past. ap (λ (b : Bool). b && test n) (no_call n past))
 
 pub every_may : EveryCallLaw
-every_may n lt = subst (λ (calls : ℕ). may_make calls n ≡ true) every_is (calls_are (λ k. true) n lt)
+every_may n = within is_call calls_end n (no_call n)
+
+-- of two numbers of which one is a call's, one is not the other
+pub differ : (m n : ℕ) (b : Bool) → is_call m ≡ b → is_call n ≡ not b → nat_eq m n ≡ false
+differ m n true is other = ne_eqb m n (λ e. let same = sym is ∙ (ap is_call e ∙ other) in absurd (cc same))
+differ m n false is other = ne_eqb m n (λ e. let same = sym is ∙ (ap is_call e ∙ other) in absurd (cc same))

@@ -1,7 +1,7 @@
 -- Worked footprints, counted out by hand; and which calls may be made.
-use Rattle.std.specs.Prelude.{◌≡◌, ℕ, nat_le, nat_lt, true, false, List, [], ◌∷◌, Option, Some, None, refl}
+use Rattle.std.specs.Prelude.{◌≡◌, ℕ, ◌-◌, nat_le, nat_lt, true, false, List, [], ◌∷◌, Option, Some, None, refl}
 use Rattle.kernel_clone.specs.Footprints.{Layout, WorkDone, LineTouch, touch_of, touches, text_touches, stack_touches, data_touches, shared_touches, zeroed_touches, entry_touches}
-use Rattle.kernel_clone.specs.Permissions.{may_make, every_call, permitted, calls_below, calls_of}
+use Rattle.kernel_clone.specs.Permissions.{is_call, calls_end, may_make, every_call, permitted, calls_below, calls_of}
 use Rattle.kernel_clone.specs.declared.Kind.TheVariants.{Fetch, Load, Store}
 
 -- text in frames 1 and 3, stack in 5, data in 7; two colours
@@ -103,7 +103,12 @@ unfolding may_make
 no_call = refl
 
 every_call_is : every_call ≡ 32767
+unfolding calls_below
 every_call_is = refl
+
+-- the last call is the greatest number below the end
+last_is : is_call (calls_end - 1) ≡ true
+last_is = refl
 
 two_lowest : calls_of (λ n. nat_lt n 2) ≡ 3
 unfolding calls_below

@@ -46,8 +46,8 @@ pub fn entries_lie_in_their_frames()
         → frame_of l (address / l.line) ≡ frame_at address }
 {}
 
-/// Each call has a bit of its own: of the calls that a test has, just these may
-/// be made, and of all calls each.
+/// Each call has a bit of its own, and what is no call has none: of the calls that
+/// a test has, just these may be made, and of all calls each.
 pub fn permissions()
     ensures every { EveryCallLaw }
     ensures calls { CallsLaw }

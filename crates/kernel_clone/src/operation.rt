@@ -1,7 +1,8 @@
-// The operations of the kernel, by number: 0 to 14 are its calls, and the others what it does besides.
-ghost use Rattle.std.specs.Prelude.{◌≡◌, ◌<◌, IfSome, IfNone};
+// The operations of the kernel, by number: its calls, and what it does besides.
+ghost use Rattle.std.specs.Prelude.{◌≡◌, ◌<◌, true, false, IfSome, IfNone};
 ghost use Rattle.kernel_clone.specs.Footprints.{call_number};
-ghost use Rattle.kernel_clone.specs.Permissions.{may_make};
+ghost use Rattle.kernel_clone.specs.Permissions as spec;
+ghost use Rattle.kernel_clone.specs.Permissions.{may_make, calls_end};
 
 /// The operation of an interrupt's delivery.
 pub const DELIVERY: u8 = 15;
@@ -12,8 +13,18 @@ pub const ENTER: u8 = 17;
 /// A call that is none.
 pub const BAD_CALL: u8 = 18;
 
+/// Above the number of each call.
+pub const CALLS_END: u32 = 15;
+
 /// Every call, a bit each: bit n is that of call n.
 pub const EVERY_CALL: u32 = 0x7fff;
+
+/// Whether a number is a call's.
+pub fn is_call(number: u32) -> bool
+    ensures value { result ≡ spec.is_call number }
+{
+    number <= 14
+}
 
 /// A kernel call.
 #[derive(Clone, Copy, Debug, PartialEq, Eq)]
@@ -36,10 +47,10 @@ pub enum Call {
 }
 
 impl Call {
-    /// The call with a number; `None` above 14.
+    /// The call with a number; `None` where it is no call's.
     pub fn of(number: u32) -> Option<Call>
         ensures number { IfSome result (λ call. call_number call ≡ number) }
-        ensures none { IfNone result (14 < number) }
+        ensures none { IfNone result (spec.is_call number ≡ false) }
     {
         Some(match number {
             0 => Call::Exit,
@@ -64,7 +75,8 @@ impl Call {
     /// Its number, which is that of its operation.
     pub fn number(self) -> u8
         ensures value { result ≡ call_number self }
-        ensures few { result < 15 }
+        ensures call { spec.is_call result ≡ true }
+        ensures few { result < calls_end }
     {
         self as u8
     }

@@ -22,7 +22,13 @@ use Rattle.kernel_call.specs.Facts.{Valid}
 
 -- the frames 1, 5, .. to 61, of which the root has the first for good
 unfoldable estate : Estate
-estate = record { share = share_of (whole_of 64 4) (1 ∷ []); root = 1; fixed = Fixed 1 ∷ []; calls = every_call }
+estate = record {
+  share = share_of (whole_of 64 4) (1 ∷ []);
+  root = 1;
+  fixed = Fixed 1 ∷ [];
+  calls = every_call;
+  number = 0;
+}
 
 -- a table, in the second of them, and two lines
 abbrev pub slots_of : ℕ → Slots
@@ -173,9 +179,10 @@ long = refl
 
 of_these : (first : Contents) (d : Domain) → first.frames ≡ 64 → Holds first empty → d.map ≡ 1
     → d.pool ≡ without_least (without_least (all_free (share_of (whole_of 64 4) (1 ∷ [])))) → d.caps ≡ slots → d.calls ≡ every_call
+    → d.number ≡ 0
     → Valid (zeroed (zeroed first 1) 5) d
 unfolding estate memory_of
-of_these first d size holds root free caps calls = record {
+of_these first d size holds root free caps calls number = record {
   estate = estate;
   mem = memory_of;
   facts = record {
@@ -186,6 +193,7 @@ of_these first d size holds root free caps calls = record {
       pool = free ∙ (left ∙ ap (λ (s : Slots). record { share = estate.share; free = free_frames estate s }) (sym caps));
       slots = ap (λ (s : Slots). length s) caps ∙ long;
       calls = calls;
+      number = number;
     };
     holds = holds-zeroed (zeroed first 1) (zeroed_frame empty 1) 5 (omega (arith, size))
         (holds-zeroed first empty 1 (omega (arith, size)) holds);
@@ -197,11 +205,11 @@ pub is_valid : (first second last : Contents) (root table : ℕ) (d : Domain) �
     → Holds first empty
     → root ≡ 1 → table ≡ 5 → second ≡ zeroed first root → last ≡ zeroed second table → d.map ≡ root
     → d.pool ≡ without_least (without_least (all_free (share_of (whole_of 64 4) (1 ∷ [])))) → d.caps ≡ slots_of table
-    → d.calls ≡ every_call → Valid last d
+    → d.calls ≡ every_call → d.number ≡ 0 → Valid last d
 unfolding slots
-is_valid first second last root table d size holds one five then after at free caps calls =
+is_valid first second last root table d size holds one five then after at free caps calls number =
     let memory : last ≡ zeroed (zeroed first 1) 5 =
     after ∙ ap (λ (m : Contents). zeroed m table) (then ∙ ap (λ (f : ℕ). zeroed first f) one)
     ∙ ap (λ (f : ℕ). zeroed (zeroed first 1) f) five in
     subst (λ (m : Contents). Valid m d) (sym memory)
-    (of_these first d size holds (at ∙ one) free (caps ∙ ap (λ (f : ℕ). slots_of f) five) calls)
+    (of_these first d size holds (at ∙ one) free (caps ∙ ap (λ (f : ℕ). slots_of f) five) calls number)

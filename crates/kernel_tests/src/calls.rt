@@ -86,6 +86,7 @@ fn opened_in(alloc: Global, memory: &mut PhysMem) -> Result<Domain, Memory>
         threads: ThreadSet::new(0x10000),
         layout: layout(),
         calls: EVERY_CALL,
+        number: 0,
     };
     let domain = Domain::new(alloc, begin)?;
     Ok(domain)

@@ -1,5 +1,5 @@
 -- Which moment comes where those of all domains come: computed on two domains at cycle 100.
-use Rattle.std.specs.Prelude.{◌≡◌, ℕ, Bool, true, false, if◌then◌else◌, List, [], ◌∷◌, length, Option, Some, None, refl}
+use Rattle.std.specs.Prelude.{◌≡◌, ℕ, Bool, true, false, if◌then◌else◌, List, [], ◌∷◌, Option, Some, None, refl}
 use Rattle.tp_base.specs.Table.{empty, put, at}
 use Rattle.call_table.specs.Domain.{is_running, dom_at_entry}
 use Rattle.irq_partition.specs.declared.Moment.{Moment}
@@ -61,8 +61,8 @@ by_status : (g : Guards) (i : Image) (d end : ℕ) (w : World) (runs : Bool) (o 
 by_status g i d end w true o none = rw none refl
 by_status g i d end w false o none = refl
 
-pub else_its_own : (g : Guards) (i : Image) (d end : ℕ) (w : World) → first_due i 0 w (length i.owns) ≡ None
+pub else_its_own : (g : Guards) (i : Image) (d end : ℕ) (w : World) → first_due i 0 w i.all.domains ≡ None
     → step_among g i 0 d end w ≡ own_step g i d end w
 unfolding step_among
 else_its_own g i d end w none =
-    by_status g i d end w (is_running (dom_of w d).status) (first_due i 0 w (length i.owns)) none
+    by_status g i d end w (is_running (dom_of w d).status) (first_due i 0 w i.all.domains) none

@@ -15,7 +15,7 @@ use Rattle.thread_set.specs.Threads as threads
 use Rattle.thread_set.specs.Threads.{never, turned_to, yielded, given_way, with_current, all_ended}
 use Rattle.cap_table.specs.Slots as slots
 use Rattle.irq_partition.specs.Interrupts as interrupts
-use Rattle.kernel_clone.specs.Permissions.{may_make, every_call}
+use Rattle.kernel_clone.specs.Permissions.{may_make, every_call, calls_below}
 use Rattle.kernel_clone.specs.Footprints.{text_touches, stack_touches, data_touches, shared_touches, zeroed_touches, entry_touches, touches}
 use Rattle.call_table.specs.declared.DomainStatus.TheVariants.{Exited}
 use Rattle.call_table.specs.Domain as domain
@@ -106,6 +106,7 @@ two_domains red blue = record {
   };
   owns =
       record {
+        number = 0;
         name = codes "red";
         colours = 1 ∷ [];
         entry = 65536;
@@ -114,8 +115,10 @@ two_domains red blue = record {
         lines = [];
         moments = [];
         calls = every_call;
+        makes = every_call;
       }
       ∷ record {
+        number = 1;
         name = codes "blue";
         colours = 2 ∷ [];
         entry = 65536;
@@ -124,6 +127,7 @@ two_domains red blue = record {
         lines = [];
         moments = [];
         calls = every_call;
+        makes = every_call;
       } ∷ [];
 }
 
@@ -241,6 +245,7 @@ unfolding interrupts.next_cycle interrupts.due threads.waiter threads.woken thre
     run_slot_by own_slot with_end opening_doms opening whole_by alone_opening alone_enter alone_in alone_out
     alone_if alone log_of colours.pool colours.frame_at view view_whole view_alone memory_sum count_of
     largest_of two_domains interrupted with_hart beside_moment first_due step_among steps_among may_make
+    calls_below
 everything = 0
 
 -- ---- the memory that it opens with
@@ -450,7 +455,7 @@ none_where_nobody_runs g i d end w ended = rw ended refl
 -- while one runs that is idle, another's moment comes, too, and is charged by the clone of the one that runs
 pub comes_to_its_owner : (g : Guards) (i : Image) (d end : ℕ) (w : World) (x : Owned)
     → is_running (dom_of w d).status ≡ true
-    → first_due i 0 w (length i.owns) ≡ Some x
+    → first_due i 0 w i.all.domains ≡ Some x
     → step_among g i 0 d end w
     ≡ with_part 0 x.owner w (delivered (setting_by g i d) x.moment.line (part_of 0 x.owner w))
 unfolding step_among

@@ -1,10 +1,10 @@
 -- How many lines the calls write that a domain may make.
-use Rattle.std.proofs.Common.{◌≡◌, ◌<◌, ◌≤◌, ◌+◌, ◌/◌, ℕ, Option, Some, None, Bool, true, false, ap, subst, refl, arith, lit≤, inl, inr, mul-le-mul_right}
+use Rattle.std.proofs.Common.{◌≡◌, ◌∙◌, ◌≤◌, ◌+◌, ◌/◌, ℕ, Option, Some, None, Bool, true, false, ap, subst, refl, arith, lit≤, inl, inr, mul-le-mul_right}
 use Rattle.std.specs.Prelude.{max, nat_eq, if◌then◌else◌}
 use Rattle.std.proofs.lemmas.Bool.{cases_Bool, or_cases, cond_both, eqb-true}
-use Rattle.kernel_clone.specs.Footprints.{Layout, call_number, delivery_op}
+use Rattle.kernel_clone.specs.Footprints.{Layout, call_number}
 use Rattle.kernel_clone.specs.Laws.{zeroed_count}
-use Rattle.kernel_clone.specs.Permissions.{may_make, every_call}
+use Rattle.kernel_clone.specs.Permissions.{is_call, may_make, every_call, calls_below}
 use Rattle.kernel_clone.specs.declared.operation.Call.{Call}
 use Rattle.kernel_clone.specs.declared.operation.Call.TheVariants.{Alloc, Table, Map, Unmap, Delete, Revoke}
 use Rattle.pad_bound.specs.Bound.{lines_in_frame, most_entries, if_may, most_written}
@@ -37,11 +37,10 @@ more_if calls others call lines within = elim (cases_Bool (may_make calls (call_
 ]
 
 -- of a domain that made it
-made : (calls op : ℕ) (call : Call) (lines : ℕ) → (op < delivery_op → may_make calls op ≡ true)
-    → call_number call < delivery_op → op ≡ call_number call → lines ≤ if_may calls call lines
-made calls op call lines permitted below same =
-    let early : op < delivery_op = omega (arith, below, same) in
-    all_if calls call lines (subst (λ (n : ℕ). may_make calls n ≡ true) same (permitted early))
+made : (calls op : ℕ) (call : Call) (lines : ℕ) → (is_call op ≡ true → may_make calls op ≡ true)
+    → is_call (call_number call) ≡ true → op ≡ call_number call → lines ≤ if_may calls call lines
+made calls op call lines permitted is same =
+    all_if calls call lines (subst (λ (n : ℕ). may_make calls n ≡ true) same (permitted (ap is_call same ∙ is)))
 
 -- ---- all of them
 
@@ -86,7 +85,7 @@ few_most calls line least =
     omega (arith, lines, alloc, table, map, unmap, delete, revoke)
 
 pub every_written : (line : ℕ) → most_written every_call line ≡ max (lines_in_frame line) most_entries
-unfolding most_written may_make
+unfolding most_written may_make calls_below
 every_written line = refl
 
 pub none_written : (line : ℕ) → most_written 0 line ≡ 0
@@ -108,42 +107,42 @@ more_written calls others line within =
 -- ---- the work of an operation
 
 -- the calls that write one entry
-one_entry : (calls line op : ℕ) → (op < delivery_op → may_make calls op ≡ true) → writes_entry op ≡ true
+one_entry : (calls line op : ℕ) → (is_call op ≡ true → may_make calls op ≡ true) → writes_entry op ≡ true
     → 1 ≤ most_written calls line
 one_entry calls line op permitted writes =
     let is : (call : Call) → nat_eq op (call_number call) ≡ true → op ≡ call_number call = λ call. eqb-true op (call_number call) in
     elim (or_cases (nat_eq op (call_number Table)) _ writes) [
       | inl e ↦
-          let one = made calls op Table 1 permitted (lit≤ tt) (is Table e) in
+          let one = made calls op Table 1 permitted refl (is Table e) in
           let counts = table_counts calls line in
           omega (arith, one, counts)
       | inr more ↦
           elim (or_cases (nat_eq op (call_number Map)) _ more) [
             | inl e ↦
-                let one = made calls op Map 1 permitted (lit≤ tt) (is Map e) in
+                let one = made calls op Map 1 permitted refl (is Map e) in
                 let counts = map_counts calls line in
                 omega (arith, one, counts)
             | inr most ↦
                 elim (or_cases (nat_eq op (call_number Unmap)) _ most) [
                   | inl e ↦
-                      let one = made calls op Unmap 1 permitted (lit≤ tt) (is Unmap e) in
+                      let one = made calls op Unmap 1 permitted refl (is Unmap e) in
                       let counts = unmap_counts calls line in
                       omega (arith, one, counts)
                   | inr e ↦
-                      let one = made calls op Delete 1 permitted (lit≤ tt) (is Delete e) in
+                      let one = made calls op Delete 1 permitted refl (is Delete e) in
                       let counts = delete_counts calls line in
                       omega (arith, one, counts)
                 ]
           ]
     ]
 
-entries_within : (calls line op : ℕ) → (op < delivery_op → may_make calls op ≡ true)
+entries_within : (calls line op : ℕ) → (is_call op ≡ true → may_make calls op ≡ true)
     → most_entries_of op ≤ most_written calls line
 entries_within calls line op permitted =
     let within : ℕ → Type 0 = λ n. n ≤ most_written calls line in
     cond_both (nat_eq op (call_number Revoke)) most_entries (if writes_entry op then 1 else 0) within
     (λ e.
-    let all = made calls op Revoke most_entries permitted (lit≤ tt) (eqb-true op (call_number Revoke) e) in
+    let all = made calls op Revoke most_entries permitted refl (eqb-true op (call_number Revoke) e) in
     let counts = revoke_counts calls line in
     omega (arith, all, counts))
     (λ other. cond_both (writes_entry op) 1 0 within (one_entry calls line op permitted) (λ none. omega arith))
@@ -151,13 +150,13 @@ entries_within calls line op permitted =
 -- an ALLOC zeroes a frame and writes no entry; what is no ALLOC zeroes none
 pub work_within : (calls : ℕ) (l : Layout) (op : ℕ) (zeroed : Option ℕ) (entries : ℕ)
     → ((frame : ℕ) → zeroed ≡ Some frame → op ≡ call_number Alloc) → entries ≤ most_entries_of op
-    → (op < delivery_op → may_make calls op ≡ true) → zeroed_count l zeroed + entries ≤ most_written calls l.line
+    → (is_call op ≡ true → may_make calls op ≡ true) → zeroed_count l zeroed + entries ≤ most_written calls l.line
 work_within calls l op None entries zeroes few permitted =
     let within = entries_within calls l.line op permitted in
     omega (arith, few, within)
 work_within calls l op (Some frame) entries zeroes few permitted =
     let alloc : op ≡ call_number Alloc = zeroes frame refl in
     let none : entries ≤ 0 = subst (λ (n : ℕ). entries ≤ most_entries_of n) alloc few in
-    let all = made calls op Alloc (lines_in_frame l.line) permitted (lit≤ tt) alloc in
+    let all = made calls op Alloc (lines_in_frame l.line) permitted refl alloc in
     let counts = alloc_counts calls l.line in
     omega (arith, none, all, counts)

@@ -1,6 +1,6 @@
 -- Worked bounds, computed from the definitions.
 use Rattle.std.specs.Prelude.{◌≡◌, ◌+◌, ◌^◌, refl}
-use Rattle.kernel_clone.specs.Permissions.{may_make, every_call}
+use Rattle.kernel_clone.specs.Permissions.{may_make, every_call, calls_below}
 use Rattle.pad_bound.specs.Bound.{MachineShape, most_written, with_calls, worst_instruction, worst_operation, worst_leave, worst_prefetch, worst_flush, worst_enter, bound_of}
 
 -- 8 shared lines, 64 lines in a frame, 32 lines in the cache
@@ -22,7 +22,7 @@ unfolding worst_instruction
 instruction = refl
 
 pub operation : worst_operation small ≡ 4277
-unfolding worst_operation most_written may_make
+unfolding worst_operation most_written may_make calls_below
 operation = refl
 
 pub leave : worst_leave small ≡ 383
@@ -43,7 +43,7 @@ enter = refl
 
 pub total : bound_of small ≡ 6150
 unfolding bound_of worst_instruction worst_operation worst_leave worst_prefetch worst_flush worst_enter
-    most_written may_make
+    most_written may_make calls_below
 total = refl
 
 -- ---- where the domain that leaves may make some calls alone
@@ -84,7 +84,7 @@ unfolding worst_instruction
 back_instruction = refl
 
 pub back_operation : worst_operation written_back ≡ 5007
-unfolding worst_operation most_written may_make
+unfolding worst_operation most_written may_make calls_below
 back_operation = refl
 
 pub back_leave : worst_leave written_back ≡ 453
@@ -105,7 +105,7 @@ back_enter = refl
 
 pub back_total : bound_of written_back ≡ 7080
 unfolding bound_of worst_instruction worst_operation worst_leave worst_prefetch worst_flush worst_enter
-    most_written may_make
+    most_written may_make calls_below
 back_total = refl
 
 -- where a second-level miss writes back again, and a division may take 2 cycles a digit and one more

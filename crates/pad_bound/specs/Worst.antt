@@ -2,9 +2,9 @@
 use Rattle.std.specs.Prelude.{◌≡◌, ℕ, ◌+◌, ◌<◌, ◌≤◌, nat_eq, Bool, ◌||◌, if◌then◌else◌, true, false, List, [], length, map, Some, None}
 use Rattle.std.specs.List.{range_with_len, sum_by}
 use Rattle.cycle_cost.specs.Costs.{CostTable}
-use Rattle.kernel_clone.specs.Footprints.{Layout, WorkDone, LineTouch, call_number, delivery_op, is_of_switch, touch_of, shared_line, shared_lines}
+use Rattle.kernel_clone.specs.Footprints.{Layout, WorkDone, LineTouch, call_number, is_of_switch, touch_of, shared_line, shared_lines}
 use Rattle.kernel_clone.specs.Laws.{zeroed_count}
-use Rattle.kernel_clone.specs.Permissions.{may_make}
+use Rattle.kernel_clone.specs.Permissions.{is_call, may_make}
 use Rattle.kernel_clone.specs.declared.operation.Call.TheVariants.{Alloc, Table, Map, Unmap, Delete, Revoke}
 use Rattle.kernel_clone.specs.declared.Kind.{Kind}
 use Rattle.kernel_clone.specs.declared.Kind.TheVariants.{Fetch, Load, Store}
@@ -46,7 +46,7 @@ pub record IsCallWork (w : WorkDone) : Type 0 where
 
 -- a domain that may make these calls can have made it; deliveries and bad calls come to all
 abbrev pub IsPermitted : ℕ → WorkDone → Type 0
-IsPermitted calls w = w.op < delivery_op → may_make calls w.op ≡ true
+IsPermitted calls w = is_call w.op ≡ true → may_make calls w.op ≡ true
 
 -- the lines that it wrote
 abbrev pub lines_written : Layout → WorkDone → ℕ

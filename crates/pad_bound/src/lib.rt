@@ -48,7 +48,7 @@ pub fn bound(shape: &Shape) -> Bound
 }
 
 /// The same, where the domain that leaves may make these calls alone: bit n is
-/// that of call n, and bits above 14 count for nothing. The shape's own `written`
+/// that of call n, and a bit of no call counts for nothing. The shape's own `written`
 /// isn't looked at.
 #[tactic(auto, unfolding(crate::specs::Bound::worst_instruction, crate::specs::Bound::worst_leave, crate::specs::Bound::worst_prefetch, crate::specs::Bound::worst_flush, crate::specs::Bound::worst_enter))]
 pub fn bound_from(shape: &Shape, calls: u32) -> Bound

@@ -25,7 +25,7 @@ fn lines_if(calls: u32, call: Call, lines: u32) -> u32
 
 /// The most lines, of so many bytes from 16 to 128, that one of these calls
 /// writes: those of a frame that it zeroes, or of the entries that it writes.
-/// Bit n of `calls` is that of call n; bits above 14 count for nothing.
+/// Bit n of `calls` is that of call n; a bit of no call counts for nothing.
 #[tactic(auto, unfolding(crate::specs::Bound::most_written))]
 pub fn most_written(calls: u32, line: u32) -> u32
     requires line { 16 ≤ line }

@@ -15,7 +15,6 @@ use Rattle.image_check.specs.Image.{Image, image_from}
 use Rattle.image_reading.specs.Reading.{most_bytes}
 use Rattle.image_redact.specs.Redacted.{redacted}
 use Rattle.image_writing.specs.Text.{text_of}
-use Rattle.world_view.specs.Relations.{IsDomain}
 use Rattle.guards.specs.declared.Guard.{Guard}
 use Rattle.sched_table.specs.Schedule.{harts_in}
 use Rattle.tp_report.specs.Report.{report_off, usage_text, refusal_text, too_long_text}
@@ -221,16 +220,16 @@ unfolding answer_unless_broken
 found_due c found i read = rw read
 
 -- a domain of the image is run alone, and of another there is nothing to tell
-pub alone_due : (d n : ℕ) (i : Image) → IsDomain i d
+pub alone_due : (d n : ℕ) (i : Image) → d < i.all.domains
     → answer_alone d n i ≡ (Done, section_alone i d n)
 unfolding answer_alone
-alone_due d n i is = let test : ltb d (length i.owns) ≡ true = grind (arith, nat_tests) in rw test
+alone_due d n i is = let test : ltb d i.all.domains ≡ true = grind (arith, nat_tests) in rw test
 
-pub lacks_due : (d n : ℕ) (i : Image) → length i.owns ≤ d
+pub lacks_due : (d n : ℕ) (i : Image) → i.all.domains ≤ d
     → answer_alone d n i ≡ (Usage, usage_text)
 unfolding answer_alone
 lacks_due d n i lacks =
-    let test : ltb d (length i.owns) ≡ false = grind (arith, nat_tests) in rw test
+    let test : ltb d i.all.domains ≡ false = grind (arith, nat_tests) in rw test
 
 -- an image of one hart is run with a guard off, and of several there is nothing to tell
 pub off_due : (off : Guard) (n : ℕ) (i : Image) → harts_in i.all.schedule ≡ 1
@@ -288,7 +287,7 @@ of_image Bound (Ok i) = tt
 of_image (Run n) (Ok i) = tt
 of_image (Alone d n) (Ok i) =
     let j = image_from i in
-    of_chosen IsOfImage (ltb d (length j.owns)) (Done, section_alone j d n) (Usage, usage_text) tt tt
+    of_chosen IsOfImage (ltb d j.all.domains) (Done, section_alone j d n) (Usage, usage_text) tt tt
 of_image (Ablate off n) (Ok i) =
     let j = image_from i in
     of_chosen IsOfImage (nat_eq (harts_in j.all.schedule) 1) (Done, report_off off j n) (Usage, usage_text) tt tt

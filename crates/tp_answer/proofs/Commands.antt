@@ -192,7 +192,7 @@ no_refusal (Gen s) i e = cc e
 no_refusal (Demo s) i e = cc e
 no_refusal (Alone d n) i e =
     let j = image_from i in
-    of_chosen (λ s. Refused ≢ s) (ltb d (length j.owns)) (Done, section_alone j d n)
+    of_chosen (λ s. Refused ≢ s) (ltb d j.all.domains) (Done, section_alone j d n)
     (Usage, usage_text) (λ r. cc r) (λ r. cc r) e
 no_refusal (Redact d) i e =
     of_chosen (λ s. Refused ≢ s) (ltb d (length i.domains)) (Done, text_of (redacted i d))
@@ -367,7 +367,7 @@ lacks_domain d n a h asked usage =
     let due : IsDue b Usage (due_to b) = wrote_as b k Usage usage in
     let few = usage_reads b k tt usage in
     let (r, is) = reads_image b k (answer_alone d n) (λ i. refl) (λ i. refl) tt Usage usage_is_found due few in
-    elim (cases_lt d (length r.found.owns)) [
+    elim (cases_lt d r.found.all.domains) [
       | inl has ↦
           let same = is.0 ∙ ap (λ (x : Answer). x.0) (alone_due d n r.found has) in absurd (cc same)
       | inr lacks ↦
@@ -385,11 +385,12 @@ writes_section d n a h asked done =
     let due : IsDue b Done (due_to b) = wrote_as b k Done done in
     let few = done_reads b k tt done in
     let (r, is) = reads_image b k (answer_alone d n) (λ i. refl) (λ i. refl) tt Done done_is_found due few in
-    elim (cases_lt d (length r.found.owns)) [
+    elim (cases_lt d r.found.all.domains) [
       | inl has ↦
           let section =
           ap (λ (x : Answer). after_known a.old.written x.1) (alone_due d n r.found has) in
-          record { ran = r; domain = has; wrote = is.1 ∙ section }
+          let counted = (read_separated a.left a.left' r).counted in
+          record { ran = r; domain = omega (arith, has, counted); wrote = is.1 ∙ section }
       | inr lacks ↦
           let same = is.0 ∙ ap (λ (x : Answer). x.0) (lacks_due d n r.found lacks) in absurd (cc same)
     ]

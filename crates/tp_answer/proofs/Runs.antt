@@ -27,7 +27,7 @@ module _ (i : Image) (c : Choice) (n : ℕ) (r : Runnable i) where
 
   pub apart : report i c n ≡ report_apart i c n
   unfolding report report_apart
-  apart = same_report i (world_after i c n) (λ d. view_alone_on i d n) seen_alone
+  apart = same_report i r.counted (world_after i c n) (λ d. view_alone_on i d n) seen_alone
 
   -- the section of a domain alone is that of the report
   pub same_section : (d : ℕ) → IsDomain i d

@@ -28,7 +28,7 @@ Answer = Status × List ℕ
 
 -- words that name no domain of the image have the usage line
 unfoldable pub answer_alone : ℕ → ℕ → Image → Answer
-answer_alone d n i = if nat_lt d (length i.owns) then (Done, section_alone i d n) else (Usage, usage_text)
+answer_alone d n i = if nat_lt d i.all.domains then (Done, section_alone i d n) else (Usage, usage_text)
 
 -- an image of several harts has no machine with a guard off
 unfoldable pub answer_off : Guard → ℕ → Image → Answer

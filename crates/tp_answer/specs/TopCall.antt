@@ -156,7 +156,7 @@ pub record Padded (c : Choice) (slots : ℕ) (left left' : Option (List ℕ)) : 
 -- the image lacks the domain that is named, and the usage line was written
 pub record LacksDomain (d : ℕ) (left left' written written' : Option (List ℕ)) : Type 0 where
   pub ran : ReadsImage left left'
-  pub lacks : length ran.found.owns ≤ d
+  pub lacks : ran.found.all.domains ≤ d
   pub wrote : written' ≡ after_known written usage_text
 
 -- what is seen of the domain alone was written

@@ -5,6 +5,7 @@ ghost use Rattle.guards.specs.declared.Guard.{Guard};
 ghost use Rattle.image_record.specs.declared.refusal.Refusal.{Refusal};
 ghost use Rattle.image_record.specs.Record.{Raw};
 ghost use Rattle.image_check.specs.Own.{owns_of};
+ghost use Rattle.image_check.specs.Image.{image_from};
 ghost use Rattle.tp_words.specs.declared.Command.{Command};
 ghost use Rattle.tp_answer.specs.Answer as spec;
 ghost use Rattle.tp_answer.specs.TopCall.{Delivers};
@@ -106,6 +107,7 @@ pub fn status_unless_failed(status: Status, written: Result<(), Failed>) -> Stat
 /// How many domains the image has.
 pub fn domains_of(image: &Checked) -> u8
     ensures value { result ≡ length (owns_of image.now) }
+    ensures counted { result ≡ (image_from image.now).all.domains }
 {
     image.runnable();
     image.public().domains as u8

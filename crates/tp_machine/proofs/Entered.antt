@@ -15,10 +15,9 @@ use Rattle.kernel_call.specs.declared.domain.Domain.{Domain}
 use Rattle.kernel_call.specs.Models.{CountsUpTo}
 use Rattle.image_check.specs.Image.{Image, own_of}
 use Rattle.image_check.specs.Laws.{Runnable}
-use Rattle.domain_open.specs.Placing.{AreOpened}
+use Rattle.domain_open.specs.Placing.{AreOpened, placed_all}
 use Rattle.world_view.specs.Cost.{hierarchy}
 use Rattle.world_view.specs.Kernel.{layout, opening_dom}
-use Rattle.world_view.specs.Opening.{all_placed}
 use Rattle.world_view.specs.Machine.{guarded, guards_of, setting_by, with_hart, opening, whole_by}
 use Rattle.world_view.specs.Relations.{IsDomain}
 use Rattle.world_view.specs.declared.used.Used.{Used}
@@ -68,7 +67,7 @@ pub record IsLoaded (off : Option Guard) (i : Image) (memory : Contents) (system
     (domains : List Domain)
     (used : List Used) : Type 0 where
   pub frames : memory.frames ≡ i.all.hardware.frames
-  pub holds : Holds memory (all_placed i.all.hardware i.owns)
+  pub holds : Holds memory (placed_all i)
   pub levels : (guards_of off i).levels ≡ hierarchy_of any_rule system
   pub pinned : system.core.pinned ≡ false
   pub cold_is : SystemStands any_stands_for system (cold (guards_of off i).levels)

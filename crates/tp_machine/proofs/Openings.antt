@@ -60,7 +60,7 @@ module _ (given : CloneLayout) (old new : Domain) (has : HasClone given old new)
       (opening_dom p o)
   entered_with p o l is same = record {
     dom = stands_still (opening_dom p o) is.stands;
-    has = has_still (estate p o) old new is.has has.caps has.pool has.map has.calls;
+    has = has_still (estate p o) old new is.has has.caps has.pool has.map has.calls has.number;
     layout = ap layout_model has.layout_is ∙ same;
     moments = rw has.interrupts is.moments;
   }

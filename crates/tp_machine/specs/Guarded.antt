@@ -67,6 +67,7 @@ pub record HasClone (layout : CloneLayout) (old new : Domain) : Type 0 where
   pub map : new.map ≡ old.map
   pub pool : new.pool ≡ old.pool
   pub calls : new.calls ≡ old.calls
+  pub number : new.number ≡ old.number
   pub retired : new.retired ≡ old.retired
   pub readings : new.readings ≡ old.readings
   pub replies : new.replies ≡ old.replies

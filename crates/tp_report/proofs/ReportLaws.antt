@@ -20,7 +20,8 @@ same_texts f g a zero same = refl
 same_texts f g a (suc n) same = ap₂ (λ x y. x ++ y) (same a (omega arith)) (same_texts f g (a + 1) n (λ x h. same x (omega arith)))
 
 -- of a machine in this state
-module _ (i : Image) (w : World) (views : ℕ → View) (same : (d : ℕ) → IsDomain i d → view_in i d w ≡ views d) where
+module _ (i : Image) (counted : i.all.domains ≡ length i.owns) (w : World) (views : ℕ → View)
+    (same : (d : ℕ) → IsDomain i d → view_in i d w ≡ views d) where
   section_same : (d : ℕ) → IsDomain i d → section_of i (λ e. view_in i e w) d ≡ section_of i views d
   unfolding section_of
   section_same d is = ap (section d (own_of i d).name) (same d is)
@@ -30,13 +31,14 @@ module _ (i : Image) (w : World) (views : ℕ → View) (same : (d : ℕ) → Is
   unfolding report_of report_with sections
   same_report =
       ap (λ (xs : List ℕ). concat (xs ∷ switch_lines i.all.schedule w.used ∷ end_text ∷ []))
-      (same_texts (section_of i (λ e. view_in i e w)) (section_of i views) 0 (length i.owns) (λ d h. section_same d (omega (arith, h))))
+      (same_texts (section_of i (λ e. view_in i e w)) (section_of i views) 0 i.all.domains
+      (λ d h. section_same d (omega (arith, h, counted))))
 
 pub reported_apart : ReportLaw
 unfolding view_on
 reported_apart i order r below between =
     let s = harts i order in
-    same_report i s.world (λ d. view_alone_on i d (slots_of (hart_of_domain i d) s))
+    same_report i r.counted s.world (λ d. view_alone_on i d (slots_of (hart_of_domain i d) s))
     (λ d is. hart_isolation i d order r is below (between (hart_of_domain i d) (home i r d)))
 
 pub says_within : LinesLaw

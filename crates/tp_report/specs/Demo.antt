@@ -1,5 +1,5 @@
 -- The summary of a run: of a seed's image, after 64 slots.
-use Rattle.std.specs.Prelude.{ℕ, List, [], ◌∷◌, ◌++◌, length, codes, decimal}
+use Rattle.std.specs.Prelude.{ℕ, List, [], ◌∷◌, ◌++◌, codes, decimal}
 use Rattle.std.specs.List.{concat, flat_map, range_with_len}
 use Rattle.image_check.specs.Image.{Image}
 use Rattle.domain_view.specs.Models.{view_model}
@@ -34,7 +34,7 @@ demo_line i n d = demo_domain d (view_whole i d n)
 
 -- lines by domain
 unfoldable pub demo_lines : Image → ℕ → List ℕ
-demo_lines i n = flat_map (demo_line i n) (range_with_len 0 (length i.owns))
+demo_lines i n = flat_map (demo_line i n) (range_with_len 0 i.all.domains)
 
 -- the head, lines by domain, and what ends a report, after n slots
 unfoldable pub demo_after : Image → ℕ → ℕ → List ℕ

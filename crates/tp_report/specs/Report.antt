@@ -40,7 +40,7 @@ unfoldable pub section_of : Image → (ℕ → View) → ℕ → List ℕ
 section_of i views d = section d (own_of i d).name (views d)
 
 unfoldable pub sections : Image → (ℕ → View) → List ℕ
-sections i views = flat_map (section_of i views) (range_with_len 0 (length i.owns))
+sections i views = flat_map (section_of i views) (range_with_len 0 i.all.domains)
 
 -- sections by domain, switch lines by entry, and the end
 unfoldable pub report_with : Image → (ℕ → View) → List (ℕ × ℕ) → List ℕ

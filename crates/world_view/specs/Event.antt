@@ -89,7 +89,7 @@ unfoldable pub read : ℕ → ℕ → Act ℕ
 read f i = λ s. record { notes = []; state = s; value = inr (word s.mem f i) }
 
 unfoldable pub write : ℕ → ℕ → ℕ → Act (Unit {0})
-write f i v = λ s. record { notes = []; state = record { mem = written s.mem f i v }; value = inr tt }
+write f i v = λ s. record { notes = []; state = record s { mem = written s.mem f i v }; value = inr tt }
 
 -- ends the domain's instruction where there is a trap
 unfoldable pub unless : Option Trap → Dom → Act (Unit {0})
@@ -199,7 +199,7 @@ make_call p e l d = λ s.
     let r = call e d s.mem in
     record {
       notes = call_touches p l (number_made e d) r.notes;
-      state = record { mem = r.state };
+      state = record s { mem = r.state };
       value = inr (either r.value);
     }
 

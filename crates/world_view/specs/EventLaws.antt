@@ -9,6 +9,7 @@ use Rattle.sv32_walk.specs.declared.access.WalkFault.{WalkFault}
 use Rattle.sv32_walk.specs.PageTableEntry.{ppn}
 use Rattle.sv32_walk.specs.Walk.{walk}
 use Rattle.pad_bound.specs.Bound.{worst_instruction, worst_operation}
+use Rattle.pad_bound.specs.Worst.{AreWithin}
 use Rattle.mem_system.specs.Cost.{Touch, touched_all}
 use Rattle.mem_system.specs.Worst.{HasWays}
 use Rattle.call_table.specs.Domain.{Dom}
@@ -65,8 +66,9 @@ EndsBy p o now end (Jump t) later = later ≤ end
 EndsBy p o now end (Deliver line) later = later ≤ now + worst_operation (own_shape p o)
 EndsBy p o now end Run later = later ≤ now + largest_step p o
 
+-- where each call that the domain may make counts in its bound
 abbrev pub StepCostLaw : Type 0
-StepCostLaw = (p : Hardware) (o : Own) (pinned : Bool) (end : ℕ) (s : Local) → HasWays (hierarchy p) s.caches
+StepCostLaw = (p : Hardware) (o : Own) → AreWithin o.makes o.calls → (pinned : Bool) (end : ℕ) (s : Local) → HasWays (hierarchy p) s.caches
     → EndsBy p o s.clock end (event o s.clock end s.dom) (step (setting p o pinned) end s).clock
 
 -- the instruction that a walk's leaf leads to, where it found one, of a machine with products and divisions or without

@@ -81,7 +81,13 @@ fixed_claims p o =
     ∷ (map (table_claim p o) (first_regions o) ++ map (page_claim p o) (kept_pages o)))
 
 unfoldable pub estate : Hardware → Own → Estate
-estate p o = record { share = share_of p o; root = root_of p o; fixed = fixed_claims p o; calls = o.calls }
+estate p o = record {
+  share = share_of p o;
+  root = root_of p o;
+  fixed = fixed_claims p o;
+  calls = o.makes;
+  number = o.number;
+}
 
 -- ---- its kernel clone
 

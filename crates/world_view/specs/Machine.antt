@@ -1,5 +1,5 @@
 -- The whole machine, and one domain alone.
-use Rattle.std.specs.Prelude.{ℕ, zero, suc, ◌+◌, ◌-◌, ◌/◌, ◌==◌, max, nat_lt, nat_le, nat_eq, Bool, true, false, if◌then◌else◌, List, [], ◌∷◌, ◌++◌, length, Option, Some, None}
+use Rattle.std.specs.Prelude.{ℕ, zero, suc, ◌+◌, ◌-◌, ◌/◌, ◌==◌, max, nat_lt, nat_le, nat_eq, Bool, true, false, if◌then◌else◌, List, [], ◌∷◌, ◌++◌, length, take, Option, Some, None}
 use Rattle.tp_base.specs.Table.{Table, empty, at, put}
 use Rattle.tp_base.specs.Act.{Done, either}
 use Rattle.guards.specs.declared.Guard.{Guard}
@@ -327,7 +327,7 @@ delivered_or_step g i h d end w (Some x) =
 unfoldable pub step_among : Guards → Image → ℕ → ℕ → ℕ → World → World
 step_among g i h d end w =
     delivered_or_step g i h d end w
-    (if is_running (dom_of w d).status then first_due i h w (length i.owns) else None)
+    (if is_running (dom_of w d).status then first_due i h w i.all.domains else None)
 
 unfoldable pub steps_among : Guards → Image → ℕ → ℕ → ℕ → ℕ → World → World
 steps_among g i h d end zero w = w
@@ -362,11 +362,15 @@ unfoldable pub opening_doms : Hardware → List Own → ℕ → Table Dom
 opening_doms p [] d = empty
 opening_doms p (o ∷ os) d = put (opening_doms p os (suc d)) d (opening_dom p o)
 
+-- what each domain of the image has of its own
+abbrev pub domains_of : Image → List Own
+domains_of i = take i.all.domains i.owns
+
 -- memory, before there is a hart
 abbrev pub no_harts : Image → World
 no_harts i = record {
-  doms = opening_doms i.all.hardware i.owns 0;
-  storage = record { mem = all_placed i.all.hardware i.owns };
+  doms = opening_doms i.all.hardware (domains_of i) 0;
+  storage = record { mem = all_placed i.all.hardware (domains_of i) };
   l2 = empty;
   harts = empty;
   used = [];

@@ -1,5 +1,5 @@
 -- The words of the laws: what is alike for a domain, in two states of machines, and what the kernel has of it.
-use Rattle.std.specs.Prelude.{◌≡◌, ℕ, Bool, false, IsTrue, ◌<◌, ◌≤◌, ◌+◌, List, [], ◌∷◌, length, Option, Some, None}
+use Rattle.std.specs.Prelude.{◌≡◌, ◌≢◌, ℕ, Bool, false, IsTrue, ◌<◌, ◌≤◌, ◌+◌, List, [], ◌∷◌, length, Option, Some, None}
 use Rattle.phys_mem.specs.Mem.{Mem, frame_at}
 use Rattle.kernel_clone.specs.Footprints.{IsLayout}
 use Rattle.pad_bound.specs.Bound.{MachineShape, worst_instruction, worst_operation, bound_of}
@@ -103,11 +103,12 @@ pub record IsKernel (p : Hardware) (o : Own) : Type 0 where
   pub data_frame : IsOwnFrame p o (layout p o).data_frame
   pub shares : sharing.IsSharing (hierarchy p) (own_colour o) (region p)
 
--- two parties: the kernel has what it should of each, and no colour is of both
+-- two parties: the kernel has what it should of each, and no colour and no number is of both
 pub record AreParties (p : Hardware) (o other : Own) : Type 0 where
   pub kernel : IsKernel p o
   pub others_kernel : IsKernel p other
   pub apart : sharing.AreApart (own_colour o) (own_colour other)
+  pub numbers : o.number ≢ other.number
 
 -- a frame that the domain has for good, in this state of it: its own, named by no capability, and never free
 pub record IsForGood (p : Hardware) (o : Own) (d : Dom) (f : ℕ) : Type 0 where

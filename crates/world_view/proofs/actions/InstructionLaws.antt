@@ -29,9 +29,9 @@ use Rattle.world_view.specs.Event.{Storage, Act, fault_of, frame_or_stop, touch,
 module _ (p : Hardware) (e : Estate) (l : Layout) (d : Dom) (Held : Storage → Type 0) (Q : Dom → Storage → Type 0)
     (stops : (code value : ℕ) (s : Storage) → Held s → Q (stopped code value d) s)
     (retires : (pc value : ℕ) (regs : List ℕ) (i : Instr) (s : Storage) → Held s → Q (retired_at pc regs (noted i value d)) s)
-    (calls : (s : Storage) → Held s → Q (either (call e d s.mem).value) (record { mem = (call e d s.mem).state }))
+    (calls : (s : Storage) → Held s → Q (either (call e d s.mem).value) (record s { mem = (call e d s.mem).state }))
     (stores : (s : Storage) (va leaf i v : ℕ) → Held s → (walk s.mem p.frames e.root va access.Store).result ≡ Ok leaf
-    → Held (record { mem = written s.mem (ppn leaf) i v })) where
+    → Held (record s { mem = written s.mem (ppn leaf) i v })) where
   -- of the domain with which a step ends early, and of what it gives
   abbrev Meets : {A : Type 0} → (A → Storage → Type 0) → Dom ⊎ A → Storage → Type 0
   Meets R (inl x) s = Q x s
@@ -101,7 +101,7 @@ module _ (p : Hardware) (e : Estate) (l : Layout) (d : Dom) (Held : Storage → 
   write_ends : (va f i v : ℕ) → Ends (Found access.Store va f) Any (write f i v)
   unfolding write
   write_ends va f i v = record {
-    ends = λ s h. subst (λ (g : ℕ). Held (record { mem = written s.mem g i v })) h.frame (stores s va h.leaf i v h.held h.is);
+    ends = λ s h. subst (λ (g : ℕ). Held (record s { mem = written s.mem g i v })) h.frame (stores s va h.leaf i v h.held h.is);
   }
 
   unless_ends : (trap : Option Trap) → Ends Held (Still Held) (unless trap d)

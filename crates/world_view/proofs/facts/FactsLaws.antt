@@ -145,8 +145,10 @@ module _ (i : Image) (r : Separated i) where
     pub among_keeps : (d end : ℕ) (w : World) → IsDomain i d → AllBoth w → AllBoth (step_among g i 0 d end w)
     unfolding step_among
     among_keeps d end w is before =
-        among_keeps_if d end w _ is
-        (or_none (is_running (dom_of w d).status) (length i.owns) (first_due i 0 w (length i.owns)) (due_owner i w (length i.owns)))
+        let o = if is_running (dom_of w d).status then first_due i 0 w i.all.domains else None in
+        among_keeps_if d end w o is
+        (subst (λ (n : ℕ). OwnerBelow n o) r.counted
+        (or_none (is_running (dom_of w d).status) i.all.domains (first_due i 0 w i.all.domains) (due_owner i w i.all.domains)))
         before
 
     open_if : (b : Bool) (x y : World) → AllBoth x → AllBoth y → AllBoth (elim b [ true ↦ x | false ↦ y ])

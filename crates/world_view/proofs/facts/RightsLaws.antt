@@ -80,7 +80,7 @@ module _ (p : Hardware) (o : Own) where
     same_caps d x s same h = record { facts = facts_of p o d x s same h.facts; rights = rights_of d x s same h.rights }
 
     after_call : (d : Dom) (s : Storage) → HasBoth p o d s
-        → HasBoth p o (either (call (estate p o) d s.mem).value) (record { mem = (call (estate p o) d s.mem).state })
+        → HasBoth p o (either (call (estate p o) d s.mem).value) (record s { mem = (call (estate p o) d s.mem).state })
     after_call d s h = record {
       facts = calls_keep (estate p o) d s.mem kernel.has_estate h.facts;
       rights = calls_within (estate p o) d s.mem kernel.has_estate h.facts h.rights;
@@ -88,7 +88,7 @@ module _ (p : Hardware) (o : Own) where
 
     after_store : (d : Dom) (s : Storage) (va leaf i v : ℕ) → HasBoth p o d s
         → (walk s.mem p.frames (estate p o).root va access.Store).result ≡ Ok leaf
-        → HasBoth p o d (record { mem = written s.mem (ppn leaf) i v })
+        → HasBoth p o d (record s { mem = written s.mem (ppn leaf) i v })
     after_store d s va leaf i v h is =
         let e = estate p o in
         let found : IsPage p o d s.mem (ppn leaf) =

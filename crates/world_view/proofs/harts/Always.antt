@@ -154,7 +154,7 @@ module _ (i : Image) (r : Runnable i) (h : ℕ) (is : h < harts_in i.all.schedul
       let end = slot_end_on i h s in
       subst (λ (x : Local). EndsBy p (owner_on i h s) a.clock end (event (owner_on i h s) a.clock end a.dom) x.clock)
       (sym (slot_step i h s within))
-      (step_costs p (owner_on i h s) false end a (inside within).ways)
+      (step_costs p (owner_on i h s) (r.sound its).listed false end a (inside within).ways)
 
   -- another domain is left as it is
   pub others_event : (d : ℕ) → IsDomain i d → IsInSlot h s → d ≢ its

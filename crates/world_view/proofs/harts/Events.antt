@@ -180,7 +180,7 @@ module _ (i : Image) (r : Runnable i) (h : ℕ) (is : h < harts_in i.all.schedul
     is_soon : IsSoon i.all.hardware r_on.timed its false (end_on i h k) stepped
     is_soon =
         let soon = inside.soon in
-        step_soon i.all.hardware r_on.timed its false (end_on i h k) here inside.soon
+        step_soon i.all.hardware r_on.timed its false (end_on i h k) (r_on.sound (domain_in i h k)).listed here inside.soon
         (record { clock = omega (arith, soon); ways = inside.ways })
 
     ran_dirty : OwnDirty i.all.hardware its stepped.caches

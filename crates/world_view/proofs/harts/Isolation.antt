@@ -26,7 +26,7 @@ use Rattle.world_view.specs.Relations.{IsDomain, KernelIsClean, InTime, AllWithi
 use Rattle.world_view.specs.Harts.{Harts, Progress, public_on, image_on, start_on, hart_of_domain, progress_of, slots_of, switches_of, next, after, all_cold, harts, view_on, view_alone_on, after_by, harts_by}
 use Rattle.world_view.specs.Laws.{TwoRunLaw}
 use Rattle.world_view.specs.HartLaws.{AreHartsOf, IsBetween, HartIsolationLaw, TwoOrdersLaw, HartPadLaw, HartLargestLaw, HartCountLaw, OtherHartsLaw, NextLaw}
-use Rattle.world_view.proofs.opening.Separate.{Separated, separated}
+use Rattle.world_view.proofs.opening.Separate.{Separated, separated, ended_listed}
 use Rattle.world_view.proofs.opening.OpeningLaws.{opening_dom_is, opening_frames}
 use Rattle.world_view.proofs.facts.RightsLaws.{both_with}
 use Rattle.world_view.proofs.facts.FactsLaws.{AllBoth, at_slot}
@@ -65,7 +65,7 @@ module _ (i : Image) (r : Runnable i) where
   first_time h is =
       let cold_here = all_cold_are i many h is in
       let clock = cold_here.clock in
-      let within = instruction_within p (ended_own (image_on i h) 0) 0 (dom_of first 0) first.storage in
+      let within = instruction_within p (ended_own (image_on i h) 0) (ended_listed (image_on i h) (separated_on i r h is) 0) 0 (dom_of first 0) first.storage in
       let base = all.timed.base in
       record {
         over = omega arith;

@@ -61,6 +61,7 @@ module _ (i : Image) (r : Runnable i) (h : ℕ) (is : h < harts_in i.all.schedul
         named = named_on;
         enough = all.enough;
         sound = all.sound;
+        numbered = all.numbered;
         apart = all.apart;
         not_kernel = all.not_kernel;
         padded = padded_on;

@@ -132,8 +132,8 @@ module _ (i : Image) (r : Separated i) (g : Guards) (d end : ℕ) where
   unfolding step_among
   among_same w v h =
       subst (λ (o : Option Owned). SameWorld (step_among g i 0 d end w) (delivered_or_step g i 0 d end v o))
-      (ap₂ (λ (x : Dom) (o : Option Owned). if is_running x.status then o else None) (h.doms d) (first_same w v h (length i.owns)))
-      (event_same w v (if is_running (dom_of w d).status then first_due i 0 w (length i.owns) else None) h)
+      (ap₂ (λ (x : Dom) (o : Option Owned). if is_running x.status then o else None) (h.doms d) (first_same w v h i.all.domains))
+      (event_same w v (if is_running (dom_of w d).status then first_due i 0 w i.all.domains else None) h)
 
   both_if : (b : Bool) (x y w v : World) → SameWorld x y → SameWorld w v
       → SameWorld (elim b [ true ↦ x | false ↦ w ]) (elim b [ true ↦ y | false ↦ v ])
@@ -199,7 +199,7 @@ module _ (i : Image) (r : Separated i) (g : Guards) (d end : ℕ) where
   event_end : (b : Bool) (w : World) → ended_of 0 (event_if b g i 0 d end w) ≡ ended_of 0 w
   unfolding with_part with_hart at put step_among
   event_end true w = refl
-  event_end false w = among_end w (if is_running (dom_of w d).status then first_due i 0 w (length i.owns) else None)
+  event_end false w = among_end w (if is_running (dom_of w d).status then first_due i 0 w i.all.domains else None)
 
 -- ---- an image of one hart
 

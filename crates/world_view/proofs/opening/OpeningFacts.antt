@@ -337,4 +337,9 @@ kernel_of i r d is = kernel_is i.all.hardware (own_of i d) (r.enough d is) (r.so
 pub parties_of : (i : Image) → Separated i → (d e : ℕ) → IsDomain i d → IsDomain i e → d ≢ e
     → AreParties i.all.hardware (own_of i d) (own_of i e)
 parties_of i r d e is ie other =
-    record { kernel = kernel_of i r d is; others_kernel = kernel_of i r e ie; apart = r.apart d e is ie other }
+    record {
+      kernel = kernel_of i r d is;
+      others_kernel = kernel_of i r e ie;
+      apart = r.apart d e is ie other;
+      numbers = λ same. other (sym (r.numbered d is) ∙ same ∙ r.numbered e ie);
+    }

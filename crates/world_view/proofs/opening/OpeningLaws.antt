@@ -17,7 +17,7 @@ use Rattle.world_view.specs.Machine.{with_hart, opening_doms, opening, alone_ope
 use Rattle.world_view.specs.Relations.{IsDomain, IsOwnFrame, SameFrames}
 use Rattle.world_view.proofs.opening.Counts.{region_before, region_once, is_page, pages_low, page_once}
 use Rattle.world_view.proofs.opening.PoolLaws.{pool_own, pool_once}
-use Rattle.world_view.proofs.opening.Separate.{Separated, frames_apart}
+use Rattle.world_view.proofs.opening.Separate.{Separated, all_domains, frames_apart}
 
 -- ---- the values of a function
 
@@ -350,7 +350,9 @@ module _ (i : Image) (r : Separated i) where
   pub opening_dom_is : (d : ℕ) → IsDomain i d
       → at no_dom (opening i).doms d ≡ opening_dom i.all.hardware (own_of i d)
   unfolding opening with_hart at put
-  opening_dom_is d is = ap (at no_dom (opening_doms i.all.hardware i.owns 0)) (omega arith) ∙ doms_at i.all.hardware i.owns 0 d is
+  opening_dom_is d is =
+      ap (λ (os : List Own). at no_dom (opening_doms i.all.hardware os 0) d) (all_domains i r.counted)
+      ∙ (ap (at no_dom (opening_doms i.all.hardware i.owns 0)) (omega arith) ∙ doms_at i.all.hardware i.owns 0 d is)
 
   pub opening_frames : (d : ℕ) → IsDomain i d
       → SameFrames i.all.hardware (own_of i d) (opening i).storage.mem
@@ -358,5 +360,6 @@ module _ (i : Image) (r : Separated i) where
   unfolding opening alone_opening with_hart at put
   opening_frames d is f own =
       let p = i.all.hardware in
-      placed_once p i.owns d f is (λ e ie. placed_other p (own_of i e) (r.enough e ie))
+      ap (λ (os : List Own). frame_at (all_placed p os) f) (all_domains i r.counted)
+      ∙ placed_once p i.owns d f is (λ e ie. placed_other p (own_of i e) (r.enough e ie))
       (λ e ie ne. frames_apart p (own_of i d) (own_of i e) f (r.apart d e is ie (λ q. ne (sym q))) own)

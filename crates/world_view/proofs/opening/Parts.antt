@@ -3,18 +3,20 @@ use Rattle.std.proofs.Common.{◌≡◌, ◌≢◌, ℕ, zero, suc, ◌+◌, ◌
 use Rattle.std.proofs.lemmas.Bool.{and_parts}
 use Rattle.std.proofs.lemmas.List.{take-append-drop, drop_more}
 use Rattle.tp_base.specs.Table.{put, empty, at}
-use Rattle.phys_mem.specs.Mem.{Frame, word, word-empty}
+use Rattle.phys_mem.specs.Mem.{Frame, frame_at, word, word-empty}
 use Rattle.frame_colours.specs.Colours as colours
 use Rattle.frame_colours.specs.Colours.{has, list_at}
 use Rattle.hardware_check.specs.Hardware.{colours_of}
+use Rattle.image_check.specs.Own.{Own}
 use Rattle.image_check.specs.Pages.{regions_in, pages_in, frames_in}
 use Rattle.image_check.specs.Laws.{Runnable}
 use Rattle.image_check.specs.Image.{Image, own_of}
 use Rattle.world_view.specs.Frames.{own_frame, pool, pool_frame, root_of, clone_frames, first_tables, page_frames, free_frames}
+use Rattle.world_view.specs.Opening.{all_placed}
 use Rattle.world_view.specs.Machine.{with_hart, opening, alone_opening}
 use Rattle.world_view.specs.Relations.{IsDomain, IsOwnFrame}
 use Rattle.world_view.proofs.opening.PoolLaws.{pool_own}
-use Rattle.world_view.proofs.opening.Separate.{Separated, list_is}
+use Rattle.world_view.proofs.opening.Separate.{Separated, all_domains, list_is}
 use Rattle.world_view.proofs.opening.OpeningLaws.{placed_past, placed_other, none_placed, opening_frames}
 
 pub drop_twice : (n m : ℕ) (xs : List ℕ) → drop m (drop n xs) ≡ drop (n + m) xs
@@ -64,8 +66,10 @@ module _ (i : Image) (r : Separated i) where
       → word (opening i).storage.mem f j ≡ 0
   unfolding opening word with_hart at put
   opened_elsewhere f j out =
-      ap (λ (x : Frame). at 0 x j) (none_placed i.all.hardware i.owns f
-      (λ e ie. placed_other i.all.hardware (own_of i e) (r.enough e ie)) out) ∙ word-empty f j
+      ap (λ (x : Frame). at 0 x j)
+      (ap (λ (os : List Own). frame_at (all_placed i.all.hardware os) f) (all_domains i r.counted)
+      ∙ none_placed i.all.hardware i.owns f (λ e ie. placed_other i.all.hardware (own_of i e) (r.enough e ie)) out)
+      ∙ word-empty f j
 
 -- none of a domain's frames has colour 0
 pub no_kernel_colour : (i : Image) (d f : ℕ) → Runnable i → IsDomain i d

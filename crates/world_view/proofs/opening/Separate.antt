@@ -1,7 +1,7 @@
 -- What the laws use of an image that may run.
 use Rattle.std.proofs.Common.{◌≡◌, ◌≢◌, ℕ, zero, suc, ◌%◌, ◌<◌, ◌≤◌, false, nat_lt, List, [], length, map, sym, ap, ◌∙◌, arith, mod-lt}
 use Rattle.std.proofs.lemmas.Bool.{and_parts}
-use Rattle.std.proofs.lemmas.List.{get_or-map}
+use Rattle.std.proofs.lemmas.List.{get_or-map, take_all}
 use Rattle.std.proofs.Math.Bool.{and-false}
 use Rattle.frame_colours.specs.Colours.{has, list_at}
 use Rattle.mem_system.specs.Sharing.{AreApart}
@@ -12,7 +12,9 @@ use Rattle.image_check.specs.Laws.{IsOwn, Runnable}
 use Rattle.image_check.specs.Image.{Image, own_of}
 use Rattle.world_view.specs.Frames.{own_frame, pool}
 use Rattle.world_view.specs.Cost.{own_colour}
-use Rattle.sched_table.specs.Schedule.{entry_of_slot, switch_entry, pad_of}
+use Rattle.pad_bound.specs.Worst.{AreWithin}
+use Rattle.sched_table.specs.Schedule.{entry_in, entry_of_slot, switch_entry, pad_of}
+use Rattle.world_view.specs.Machine.{domains_of}
 use Rattle.world_view.specs.Relations.{IsDomain, IsOwnFrame, bound, ended_own}
 use Rattle.world_view.proofs.steps.Fuel.{IsTimed}
 
@@ -31,11 +33,16 @@ pub record Separated (i : Image) : Type 0 where
   pub enough : (d : ℕ) → IsDomain i d
       → frames_in (own_of i d).segments ≤ length (pool i.all.hardware (own_of i d))
   pub sound : (d : ℕ) → IsOwn (own_of i d)
+  pub numbered : (d : ℕ) → IsDomain i d → (own_of i d).number ≡ d
   pub apart : (d e : ℕ) → IsDomain i d → IsDomain i e → d ≢ e
       → AreApart (own_colour (own_of i d)) (own_colour (own_of i e))
   pub not_kernel : (d : ℕ) → IsDomain i d → own_colour (own_of i d) 0 ≡ false
   pub padded : (k : ℕ) → bound i.all.hardware (ended_own i k) ≤ pad_of i.all.schedule k
   pub hardware : IsHardware i.all.hardware
+
+-- what its domains have is all that is of anyone's own
+pub all_domains : (i : Image) → i.all.domains ≡ length i.owns → domains_of i ≡ i.owns
+all_domains i counted = take_all i.all.domains i.owns (omega (arith, counted))
 
 module _ (i : Image) (r : Runnable i) where
   -- the colours of a domain, among those of all
@@ -66,8 +73,13 @@ module _ (i : Image) (r : Runnable i) where
     named = λ k. r.named (k % length i.all.schedule) (mod-lt k r.schedule.some);
     enough = r.pools;
     sound = r.sound;
+    numbered = r.numbered;
     apart = separate;
     not_kernel = not_zero;
     padded = λ k. r.padded (switch_entry i.all.schedule k) (entry_there k);
     hardware = r.hardware;
   }
+
+-- each call that the domain may make whose slot ended counts in its bound
+pub ended_listed : (i : Image) → Separated i → (k : ℕ) → AreWithin (ended_own i k).makes (ended_own i k).calls
+ended_listed i r k = (r.sound (entry_in i.all.schedule (switch_entry i.all.schedule k)).domain).listed

@@ -80,7 +80,7 @@ module _ (i : Image) (r : Separated i) (g : Guards) (d end : ℕ) where
   -- each step moves the clock on
   pub among_later : (w : World) → clock_of 0 w < end → clock_of 0 w < clock_of 0 (step_among g i 0 d end w)
   unfolding step_among
-  among_later w h = later_if w (if is_running (dom_of w d).status then first_due i 0 w (length i.owns) else None) h
+  among_later w h = later_if w (if is_running (dom_of w d).status then first_due i 0 w i.all.domains else None) h
 
   enough : (n m : ℕ) (w : World) → end - clock_of 0 w ≤ n → end - clock_of 0 w ≤ m
       → steps_among g i 0 d end n w ≡ steps_among g i 0 d end m w

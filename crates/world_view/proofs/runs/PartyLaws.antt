@@ -28,6 +28,7 @@ parties_swap p o other parties = record {
   kernel = parties.others_kernel;
   others_kernel = parties.kernel;
   apart = λ colour is. unnamed (own_colour o colour) (parties.apart colour) is;
+  numbers = λ same. parties.numbers (sym same);
 }
 
 pub party_frames : PartyFramesLaw

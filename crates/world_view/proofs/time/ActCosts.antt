@@ -25,6 +25,7 @@ use Rattle.sv32_walk.specs.PageTableEntry.{ppn}
 use Rattle.sv32_walk.specs.Walk.{walk, from_table, from_entry, first_level}
 use Rattle.kernel_clone.specs.Footprints.{touches, delivery_op}
 use Rattle.pad_bound.specs.Bound.{worst_look, worst_read, worst_fetch, worst_access, worst_instruction, worst_operation}
+use Rattle.pad_bound.specs.Worst.{AreWithin, IsPermitted}
 use Rattle.pad_bound.proofs.Parts.{operation_covers, few_written}
 use Rattle.mem_system.specs.Cost.{Touch, Fetch, Load, Store as StoreTouch, Branch, Jump, EmptyTlb, Charge}
 use Rattle.mem_system.specs.Translation.{lines_of, look_of}
@@ -278,15 +279,16 @@ module _ (p : Hardware) (o : Own) where
   emptied_costs false = refl
 
   -- a kernel call is within the operation
-  call_costs : (d : Dom) → Costs p (worst_operation (own_shape p o)) (make_call p (estate p o) (layout p o) d)
+  call_costs : AreWithin o.makes o.calls → (d : Dom) → Costs p (worst_operation (own_shape p o)) (make_call p (estate p o) (layout p o) d)
   unfolding make_call call_touches operation footprint worst worst_touches hierarchy layout estate
-  call_costs d = record {
+  call_costs listed d = record {
     within = λ s.
         let e = estate p o in
         let l = layout p o in
         let w = work_of (number_made e d) (call e d s.mem).notes in
         let bounded = calls_bounded e d s.mem in
-        let covers = operation_covers (own_shape p o) l w bounded.call (few_written o.calls l w bounded (calls_permitted e d s.mem)) in
+        let permitted : IsPermitted o.calls w = λ is. listed w.op (calls_permitted e d s.mem is) in
+        let covers = operation_covers (own_shape p o) l w bounded.call (few_written o.calls l w bounded permitted) in
         let lines = worst_lines (hierarchy p) (touches l w) in
         let both = worst-append (hierarchy p) (operation p.costs l w) (if empties (call e d s.mem).notes then EmptyTlb ∷ [] else []) in
         let none = emptied_costs (empties (call e d s.mem).notes) in
@@ -301,21 +303,22 @@ module _ (p : Hardware) (o : Own) where
   unfolding perform_worst
   executes t d i = more p (plain_worst p) perform_worst _ (omega arith) (timed_costs p (estate p o).root t d i)
 
-  perform_costs : (t : ℕ) (d : Dom) (w : ℕ) (i : Option Instr)
+  perform_costs : AreWithin o.makes o.calls → (t : ℕ) (d : Dom) (w : ℕ) (i : Option Instr)
       → Costs p perform_worst (perform p (estate p o) (layout p o) t d w i)
   unfolding perform perform_worst
-  perform_costs t d w None = more p 0 perform_worst _ (omega arith) (stop_costs p _)
-  perform_costs t d w (Some instr.Ecall) = more p (worst_operation (own_shape p o)) perform_worst _ (omega arith) (call_costs d)
-  perform_costs t d w (Some i) = executes t d i
+  perform_costs listed t d w None = more p 0 perform_worst _ (omega arith) (stop_costs p _)
+  perform_costs listed t d w (Some instr.Ecall) =
+      more p (worst_operation (own_shape p o)) perform_worst _ (omega arith) (call_costs listed d)
+  perform_costs listed t d w (Some i) = executes t d i
 
-  instruction_costs : (t : ℕ) (d : Dom)
+  instruction_costs : AreWithin o.makes o.calls → (t : ℕ) (d : Dom)
       → Costs p (worst_look p.costs (again_of p) + (worst_fetch p.costs (again_of p) + (0 + perform_worst)))
       (instruction p (estate p o) (layout p o) t d)
   unfolding instruction hierarchy
-  instruction_costs t d =
+  instruction_costs listed t d =
       bind_costs p (worst_look p.costs (again_of p)) _ _ _ (translate_costs p _ d _ _) (λ f.
       then_costs p (worst_fetch p.costs (again_of p)) _ _ _ (touch_costs p (Fetch (line_in p f d.threads.current.pc)))
-      (bind_costs p 0 perform_worst _ _ (read_costs p f _) (λ w. perform_costs t d w _)))
+      (bind_costs p 0 perform_worst _ _ (read_costs p f _) (λ w. perform_costs listed t d w _)))
 
   -- ---- an instruction that makes no call
 
@@ -381,10 +384,11 @@ module _ (p : Hardware) (o : Own) where
   -- ---- any
 
   -- with its base, it is within the largest step
-  pub instruction_within : (t : ℕ) (d : Dom) (s : Storage)
+  pub instruction_within : AreWithin o.makes o.calls → (t : ℕ) (d : Dom) (s : Storage)
       → p.costs.base + worst_touches (hierarchy p) (instruction p (estate p o) (layout p o) t d s).notes ≤ largest_step p o
   unfolding worst perform_worst access_worst worst_instruction
-  instruction_within t d s = let within = (instruction_costs t d).within s in omega (arith, within)
+  instruction_within listed t d s =
+      let within = (instruction_costs listed t d).within s in omega (arith, within)
 
   -- a delivery is within the operation
   pub delivery_within : worst_touches (hierarchy p) (delivery_touches p (layout p o))
@@ -397,6 +401,6 @@ module _ (p : Hardware) (o : Own) where
       operation_covers (own_shape p o) l w refl
       (few_written o.calls l w
       (record { call = refl; zeroes = λ frame is. absurd (cc is); few = omega arith })
-      (λ below. absurd (omega (arith, below)))) in
+      (λ is. absurd (cc is))) in
       let lines = worst_lines (hierarchy p) (touches l w) in
       omega (arith, covers, lines)

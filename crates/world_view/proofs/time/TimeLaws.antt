@@ -5,6 +5,7 @@ use Rattle.std.proofs.lemmas.List.{length-replicate}
 use Rattle.std.specs.Prelude.{Some, None, ◌≢◌}
 use Rattle.rv_decode.specs.declared.Instr.TheVariants.{Ecall}
 use Rattle.pad_bound.specs.Bound.{worst_instruction}
+use Rattle.pad_bound.specs.Worst.{AreWithin}
 use Rattle.tp_base.specs.Table.{at, put, at-empty}
 use Rattle.set_cache.specs.Cache.{CacheSet, fresh_set}
 use Rattle.mem_system.specs.Cost.{Touched, cold, fresh_core}
@@ -26,7 +27,7 @@ use Rattle.world_view.specs.Event.Event.{Jump, Deliver, Run}
 use Rattle.world_view.specs.Machine.{with_hart, caches_of, clock_of, setting, Local, World, paid, delivered, happened, step, steps, stretch, clone_of, switch_work, with_part, part_of, switch, opening, whole, guarded, own_slot, run_slot_by, switch_by, switch_on, whole_by, with_end}
 use Rattle.world_view.specs.Used.{largest_of}
 use Rattle.world_view.specs.Relations.{own_shape, largest_step, bound, ended_own, InTime, AllWithinPads}
-use Rattle.world_view.proofs.opening.Separate.{Separated}
+use Rattle.world_view.proofs.opening.Separate.{Separated, ended_listed}
 use Rattle.world_view.specs.EventLaws.{EndsBy, next_instruction, StepCostLaw, PlainCostLaw}
 use Rattle.world_view.proofs.steps.Fuel.{IsTimed, StaysWithin, event_within, step_later, steps_by}
 use Rattle.world_view.proofs.time.ActCosts.{instruction_within, delivery_within, plain_within}
@@ -36,24 +37,24 @@ use Rattle.world_view.proofs.facts.KernelSets.{leave_any, who_leaves, any_sharin
 -- ---- a step, from any caches
 
 -- what an event costs at most
-costs_if : (p : Hardware) (o : Own) (pinned : Bool) (end : ℕ) (s : Local) (e : Event)
+costs_if : (p : Hardware) (o : Own) → AreWithin o.makes o.calls → (pinned : Bool) (end : ℕ) (s : Local) (e : Event)
     → HasWays (hierarchy p) s.caches → StaysWithin end e
     → EndsBy p o s.clock end e (happened (setting p o pinned) s e).clock
 unfolding happened paid delivered
-costs_if p o pinned end s (Jump t) ways stays = stays
-costs_if p o pinned end s (Deliver line) ways stays =
+costs_if p o listed pinned end s (Jump t) ways stays = stays
+costs_if p o listed pinned end s (Deliver line) ways stays =
     let within = delivery_within p o in
     let cost = (worst_law (hierarchy p) pinned (delivery_touches p (layout p o)) s.caches ways).cost in
     omega (arith, within, cost)
-costs_if p o pinned end s Run ways stays =
+costs_if p o listed pinned end s Run ways stays =
     let ts = (instruction p (estate p o) (layout p o) s.clock s.dom s.storage).notes in
-    let within = instruction_within p o s.clock s.dom s.storage in
+    let within = instruction_within p o listed s.clock s.dom s.storage in
     let cost = (worst_law (hierarchy p) pinned ts s.caches ways).cost in
     omega (arith, within, cost)
 
 pub step_costs : StepCostLaw
 unfolding step
-step_costs p o pinned end s ways = costs_if p o pinned end s (event o s.clock end s.dom) ways (event_within o s.clock end s.dom)
+step_costs p o listed pinned end s ways = costs_if p o listed pinned end s (event o s.clock end s.dom) ways (event_within o s.clock end s.dom)
 
 -- an instruction that makes no call is within the bound's
 plain_if : (p : Hardware) (o : Own) (pinned : Bool) (s : Local) (e : Event) → HasWays (hierarchy p) s.caches
@@ -81,32 +82,32 @@ module _ (p : Hardware) (timed : IsTimed p) (o : Own) (pinned : Bool) (end : ℕ
     pub clock : s.clock < end + largest_step p o
     pub ways : HasWays (hierarchy p) s.caches
 
-  soon_if : (s : Local) (e : Event) → s.clock < end → HasWays (hierarchy p) s.caches → StaysWithin end e
+  soon_if : AreWithin o.makes o.calls → (s : Local) (e : Event) → s.clock < end → HasWays (hierarchy p) s.caches → StaysWithin end e
       → IsSoon (happened (setting p o pinned) s e)
   unfolding happened paid delivered
-  soon_if s (Jump t) below ways stays =
-      let within = instruction_within p o s.clock s.dom s.storage in
+  soon_if listed s (Jump t) below ways stays =
+      let within = instruction_within p o listed s.clock s.dom s.storage in
       let base = timed.base in
       record { clock = omega (arith, base, within, stays); ways = ways }
-  soon_if s (Deliver line) below ways stays =
-      let costs = costs_if p o pinned end s (Deliver line) ways stays in
+  soon_if listed s (Deliver line) below ways stays =
+      let costs = costs_if p o listed pinned end s (Deliver line) ways stays in
       record {
         clock = omega (arith, below, costs);
         ways = (worst_law (hierarchy p) pinned (delivery_touches p (layout p o)) s.caches ways).ways;
       }
-  soon_if s Run below ways stays =
+  soon_if listed s Run below ways stays =
       let ts = (instruction p (estate p o) (layout p o) s.clock s.dom s.storage).notes in
-      let costs = costs_if p o pinned end s Run ways stays in
+      let costs = costs_if p o listed pinned end s Run ways stays in
       record { clock = omega (arith, below, costs); ways = (worst_law (hierarchy p) pinned ts s.caches ways).ways }
 
   -- a step that begins in time ends past the end by less than the largest step
-  pub step_soon : (s : Local) → s.clock < end → IsSoon s → IsSoon (step (setting p o pinned) end s)
+  pub step_soon : AreWithin o.makes o.calls → (s : Local) → s.clock < end → IsSoon s → IsSoon (step (setting p o pinned) end s)
   unfolding step
-  step_soon s below soon = soon_if s (event o s.clock end s.dom) below soon.ways (event_within o s.clock end s.dom)
+  step_soon listed s below soon = soon_if listed s (event o s.clock end s.dom) below soon.ways (event_within o s.clock end s.dom)
 
   -- so do any number of steps
-  pub steps_soon : (n : ℕ) (s : Local) → IsSoon s → IsSoon (steps (setting p o pinned) end n s)
-  steps_soon n s soon = steps_by (setting p o pinned) end IsSoon step_soon n s soon
+  pub steps_soon : AreWithin o.makes o.calls → (n : ℕ) (s : Local) → IsSoon s → IsSoon (steps (setting p o pinned) end n s)
+  steps_soon listed n s soon = steps_by (setting p o pinned) end IsSoon (step_soon listed) n s soon
 
   IsOver : Local → Type 0
   IsOver s = end ≤ s.clock
@@ -130,8 +131,8 @@ module _ (p : Hardware) (timed : IsTimed p) (o : Own) (pinned : Bool) (end : ℕ
   unfolding IsOver
   stretch_over s = over (end - s.clock) s (omega arith)
 
-  pub stretch_soon : (s : Local) → IsSoon s → IsSoon (stretch (setting p o pinned) end s)
-  stretch_soon s soon = steps_soon (end - s.clock) s soon
+  pub stretch_soon : AreWithin o.makes o.calls → (s : Local) → IsSoon s → IsSoon (stretch (setting p o pinned) end s)
+  stretch_soon listed s soon = steps_soon listed (end - s.clock) s soon
 
 -- ---- a switch
 
@@ -194,7 +195,7 @@ module _ (i : Image) (r : Separated i) where
       let d = (entry_of_slot i.all.schedule k).domain in
       let begun = part_of 0 d (switch i k (whole i k)) in
       let at = switch_on_start i r 0 k (whole i k) (r.padded k) time in
-      let within = instruction_within p (own_of i d) 0 begun.dom begun.storage in
+      let within = instruction_within p (own_of i d) (r.sound d).listed 0 begun.dom begun.storage in
       let base = r.timed.base in
       record { clock = omega (arith, at, within, base); ways = switch_ways i 0 k (whole i k) time.ways }
 
@@ -205,7 +206,7 @@ module _ (i : Image) (r : Separated i) where
       let end = slot_end i.all.schedule k in
       let d = (entry_of_slot i.all.schedule k).domain in
       let begun = part_of 0 d (switch i k (whole i k)) in
-      let ends = stretch_soon p r.timed (own_of i d) false end begun (begins_soon k time) in
+      let ends = stretch_soon p r.timed (own_of i d) false end (r.sound d).listed begun (begins_soon k time) in
       record {
         over = stretch_over p r.timed (own_of i d) false end begun;
         soon = ends.clock;
@@ -217,7 +218,7 @@ module _ (i : Image) (r : Separated i) where
   pub in_time : (k : ℕ) → InTime i 0 k (whole i k)
   unfolding whole_by opening with_hart at put
   in_time zero =
-      let within = instruction_within i.all.hardware (ended_own i 0) 0 (part_of 0 0 (opening i)).dom (opening i).storage in
+      let within = instruction_within i.all.hardware (ended_own i 0) (ended_listed i r 0) 0 (part_of 0 0 (opening i)).dom (opening i).storage in
       let base = r.timed.base in
       record {
         over = omega arith;

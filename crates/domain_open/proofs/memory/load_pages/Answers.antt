@@ -1,4 +1,4 @@
-use Rattle.std.proofs.Common.{◌≡◌, ℕ, ◌<◌, ◌+◌, ◌-◌, length, get_or, drop, Some, sym, subst, subst₂, ◌∙◌, ap, arith}
+use Rattle.std.proofs.Common.{◌≡◌, ℕ, ◌<◌, ◌+◌, ◌-◌, List, length, get_or, drop, Some, sym, subst, subst₂, ◌∙◌, ap, arith}
 use Rattle.std.proofs.lemmas.Option.{slice_get-get_or}
 use Rattle.phys_mem.specs.Holds.{Holds}
 use Rattle.kernel_call.specs.Facts.{Has}
@@ -9,6 +9,7 @@ use Rattle.hardware_check.specs.Models.{hardware_model}
 use Rattle.image_check.specs.Image.{image_from}
 use Rattle.world_view.specs.Kernel.{estate}
 use Rattle.world_view.specs.Opening.{placed, all_placed}
+use Rattle.world_view.proofs.opening.Separate.{all_domains}
 use Rattle.domain_open.proofs.Loading.{owns_none, owns_more}
 use Rattle.domain_open.proofs.Pages.{has_pool}
 use Rattle.domain_open.proofs.memory.load_pages.Goals as goal
@@ -81,7 +82,9 @@ returns c =
     record {
       size = c.loop-left.invariant.frames ∙ sym c.requires.size;
       holds =
-          subst (λ (k : ℕ).
+          subst (λ (os : List Own). Holds c.loop-left.memory (all_placed i.all.hardware os))
+          (sym (all_domains i c.runnable.ensures.runnable.counted))
+          (subst (λ (k : ℕ).
           Holds c.loop-left.memory (all_placed i.all.hardware (drop k (owns_of c.args.image.now)))) end
-          c.loop-left.invariant.holds;
+          c.loop-left.invariant.holds);
     }

@@ -187,7 +187,8 @@ returns c =
           ∙ c.give_pages.ensures.kept ∙ ap₂ (λ (ys zs : List ℕ). ys ++ zs) clone (ap₂ unnamed caps (ap (take many) tabled)))
           (ap layout_model (at_ok (λ (x : Domain). x.layout ≡ c.layout_of-layout.result) r d e made.layout)
           ∙ c.layout_of-layout.ensures.layout o (c.as_slice.ensures.value ∙ clone))
-          (at_ok (λ (x : Domain). x.calls ≡ c.args.own.now.calls) r d e made.calls));
+          (at_ok (λ (x : Domain). x.calls ≡ c.args.own.now.makes) r d e made.calls)
+          (at_ok (λ (x : Domain). x.number ≡ c.args.own.now.number) r d e made.number));
       zeroed = if_ok (λ (d : Domain). AreZeroed (used_frames p o) before after) r (λ d e. used);
       elsewhere = still_elsewhere p o (frames_in o.segments) before after used;
       blank = still_blank (used_frames p o) before after used;

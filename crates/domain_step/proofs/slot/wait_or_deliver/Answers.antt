@@ -54,7 +54,8 @@ returns-then-next-now-clause-becomes g c =
     (system c.args.core.now c.args.l2.now) (system c.deliver_due.new.core c.deliver_due.new.l2)
     c.args.now (c.args.now + c.from.result) c.deliver_due.result comes.0 (plain delivery_op) c.in-Running.is comes.1
     (c.deliver_due.ensures.delivers comes.0 (due_line old.interrupts c.args.now comes.0 comes.1))
-    keeps.caps keeps.pool keeps.map keeps.layout keeps.calls keeps.moments refl c.deliver_due.ensures.makes c.deliver_due.ensures.buffer
+    keeps.caps keeps.pool keeps.map keeps.layout keeps.calls keeps.number keeps.moments refl
+    c.deliver_due.ensures.makes c.deliver_due.ensures.buffer
     (ap (λ n. c.args.now + n) c.from.ensures)
 
 pub returns-then-next-now-clause-runs : goal.returns-then-next-now-clause-runs

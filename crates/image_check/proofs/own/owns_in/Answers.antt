@@ -2,7 +2,7 @@ use Rattle.std.proofs.Common.{◌≡◌, ◌+◌, List, ◌∷◌, [], ◌++◌,
 use Rattle.std.proofs.lemmas.List.{append-nil, drop_more, drop_all}
 use Rattle.image_record.specs.declared.raw.RawDomain.{RawDomain}
 use Rattle.image_record.specs.Parts.{domain_model}
-use Rattle.image_check.specs.Own.{IsSmallOwn, own_from}
+use Rattle.image_check.specs.Own.{IsSmallOwn, own_from, owns_from}
 use Rattle.image_check.specs.Parts.{ArePartsOf}
 use Rattle.image_check.specs.Models.{own_model}
 use Rattle.image_check.proofs.FirstParts.{has_first, is_first, are_left, made_more}
@@ -13,70 +13,70 @@ use Rattle.image_check.proofs.own.owns_in.Goals as goal
 
 pub own_from-requires-clause-small : goal.own_from-requires-clause-small
 own_from-requires-clause-small c =
-    let here = c.requires.small c.loop-domain.domain-index c.domain-item.result c.loop-domain-test.true in
-    subst (λ o. IsSmallOwn (domain_model o)) (sym c.domain-item.is) here
+    let here = c.requires.small c.loop-number.number c.index-domains-number.result c.loop-number-test.true in
+    subst (λ o. IsSmallOwn (domain_model o)) (sym c.index-domains-number.is) here
 
 pub take_first-requires : goal.take_first-requires
 take_first-requires c =
     let ds = c.args.domains.now in
-    let k = c.loop-domain.domain-index in
-    let d = c.domain-item.result in
+    let k = c.loop-number.number in
+    let d = c.index-domains-number.result in
     let left : drop k ds ≡ d ∷ drop (k + 1) ds =
-    drop_more ds k d c.loop-domain-test.true
-    ∙ ap (λ (x : RawDomain). x ∷ drop (k + 1) ds) (sym c.domain-item.is) in
-    let parts = subst (λ (os : List RawDomain). ArePartsOf c.loop-domain.parts (map domain_model os)) left c.loop-domain.invariant.1 in
-    record { first = has_first c.loop-domain.parts (domain_model d) (map domain_model (drop (k + 1) ds)) parts }
+    drop_more ds k d c.loop-number-test.true
+    ∙ ap (λ (x : RawDomain). x ∷ drop (k + 1) ds) (sym c.index-domains-number.is) in
+    let parts = subst (λ (os : List RawDomain). ArePartsOf c.loop-number.parts (map domain_model os)) left c.loop-number.invariant.1 in
+    record { first = has_first c.loop-number.parts (domain_model d) (map domain_model (drop (k + 1) ds)) parts }
 
 pub own_from-requires-clause-part : goal.own_from-requires-clause-part
 own_from-requires-clause-part c =
     let ds = c.args.domains.now in
-    let k = c.loop-domain.domain-index in
-    let d = c.domain-item.result in
+    let k = c.loop-number.number in
+    let d = c.index-domains-number.result in
     let left : drop k ds ≡ d ∷ drop (k + 1) ds =
-    drop_more ds k d c.loop-domain-test.true
-    ∙ ap (λ (x : RawDomain). x ∷ drop (k + 1) ds) (sym c.domain-item.is) in
-    let parts = subst (λ (os : List RawDomain). ArePartsOf c.loop-domain.parts (map domain_model os)) left c.loop-domain.invariant.1 in
-    is_first c.loop-domain.parts c.take_first.new.self c.take_first.result (domain_model d)
+    drop_more ds k d c.loop-number-test.true
+    ∙ ap (λ (x : RawDomain). x ∷ drop (k + 1) ds) (sym c.index-domains-number.is) in
+    let parts = subst (λ (os : List RawDomain). ArePartsOf c.loop-number.parts (map domain_model os)) left c.loop-number.invariant.1 in
+    is_first c.loop-number.parts c.take_first.new.self c.take_first.result (domain_model d)
     (map domain_model (drop (k + 1) ds)) parts c.take_first.ensures.taken
 
-pub loop-domain-preserved : goal.loop-domain-preserved
-loop-domain-preserved c =
+pub loop-number-preserved : goal.loop-number-preserved
+loop-number-preserved c =
     let ds = c.args.domains.now in
-    let k = c.loop-domain.domain-index in
-    let d = c.domain-item.result in
+    let k = c.loop-number.number in
+    let d = c.index-domains-number.result in
     let rest = drop (k + 1) ds in
     let left : drop k ds ≡ d ∷ drop (k + 1) ds =
-    drop_more ds k d c.loop-domain-test.true
-    ∙ ap (λ (x : RawDomain). x ∷ drop (k + 1) ds) (sym c.domain-item.is) in
-    let parts = subst (λ (os : List RawDomain). ArePartsOf c.loop-domain.parts (map domain_model os)) left c.loop-domain.invariant.1 in (
-      made_more own_model c.loop-domain.owns.items c.push.new.self.items c.in_ok-own_from.field-0
-          (map own_from (map domain_model (drop k ds))) (map own_from (map domain_model rest))
-          (map own_from (map domain_model ds)) (own_from (domain_model d))
-          (ap (λ (os : List RawDomain). map own_from (map domain_model os)) left) c.loop-domain.invariant.0
+    drop_more ds k d c.loop-number-test.true
+    ∙ ap (λ (x : RawDomain). x ∷ drop (k + 1) ds) (sym c.index-domains-number.is) in
+    let parts = subst (λ (os : List RawDomain). ArePartsOf c.loop-number.parts (map domain_model os)) left c.loop-number.invariant.1 in (
+      made_more own_model c.loop-number.owns.items c.push.new.self.items c.in_ok-own_from.field-0
+          (owns_from k (map domain_model (drop k ds))) (owns_from (k + 1) (map domain_model rest))
+          (owns_from 0 (map domain_model ds)) (own_from k (domain_model d))
+          (ap (λ (os : List RawDomain). owns_from k (map domain_model os)) left) c.loop-number.invariant.0
           c.in_ok-push.ensures.items c.in_ok-own_from.ensures.value,
-      are_left c.loop-domain.parts c.take_first.new.self c.take_first.result (domain_model d)
+      are_left c.loop-number.parts c.take_first.new.self c.take_first.result (domain_model d)
           (map domain_model rest) parts c.take_first.ensures.taken,
     )
 
 pub returns : goal.returns
 returns c =
     let ds = c.args.domains.now in
-    let made = map own_model c.loop-domain.owns.items in
-    let none : drop c.loop-domain.domain-index ds ≡ [] = drop_all c.loop-domain.domain-index ds c.loop-domain-test.false in
+    let made = map own_model c.loop-number.owns.items in
+    let none : drop c.loop-number.number ds ≡ [] = drop_all c.loop-number.number ds c.loop-number-test.false in
     record {
       value =
           sym (append-nil made)
-          ∙ ap (λ (os : List RawDomain). made ++ map own_from (map domain_model os)) (sym none)
-          ∙ c.loop-domain.invariant.0;
+          ∙ ap (λ (os : List RawDomain). made ++ owns_from c.loop-number.number (map domain_model os)) (sym none)
+          ∙ c.loop-number.invariant.0;
     }
 
-pub loop-domain-init : goal.loop-domain-init
-loop-domain-init c =
-    let all = map own_from (map domain_model c.args.domains.now) in
+pub loop-number-init : goal.loop-number-init
+loop-number-init c =
+    let all = owns_from 0 (map domain_model c.args.domains.now) in
     (ap (λ (owns : List Own). map own_model owns ++ all) c.new-owns.ensures.items, c.requires.parts)
 
-pub bounds-domains-domain-index : goal.bounds-domains-domain-index
-bounds-domains-domain-index c = c.loop-domain-test.true
+pub bounds-domains-number : goal.bounds-domains-number
+bounds-domains-number c = c.loop-number-test.true
 
 pub returns-in_err-own_from : goal.returns-in_err-own_from
 returns-in_err-own_from c =

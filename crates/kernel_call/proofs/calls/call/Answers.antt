@@ -1,7 +1,7 @@
 use Rattle.std.proofs.Common.{arith, ◌≡◌, true, ◌∙◌, ap, sym, subst, ℕ, length, Some, [], None}
 use Rattle.std.specs.Prelude.{slice_index}
 use Rattle.kernel_clone.specs.Footprints.{WorkDone}
-use Rattle.kernel_clone.specs.Permissions.{permitted, may_make}
+use Rattle.kernel_clone.specs.Permissions.{is_call, permitted, may_make}
 use Rattle.call_table.specs.Calls.{op_of, empties_buffer}
 use Rattle.call_table.proofs.BoundedWork.{call_of_empties}
 use Rattle.kernel_call.specs.declared.error.CallError.TheVariants as error
@@ -33,7 +33,7 @@ returns-in-None-clause-calls c e readings replies m h logged kept =
     (slice_index c.args.args 1) (slice_index c.args.args 2) c.in-None.ensures.none)
     (omega arith) c.reply.ensures.value c.reply_to.ensures.reply (c.reply_to.ensures.becomes readings replies logged kept))
     (facts_still e c.args.memory.now m c.args.domain.now c.reply_to.new.domain h
-    c.reply_to.ensures.keeps.map c.reply_to.ensures.keeps.calls c.reply_to.ensures.pool c.reply_to.ensures.caps)
+    c.reply_to.ensures.keeps.map c.reply_to.ensures.keeps.calls c.reply_to.ensures.keeps.number c.reply_to.ensures.pool c.reply_to.ensures.caps)
     (c.plain.ensures.work
     ∙ ap (λ (op : ℕ). record { op = op; zeroed = None; entries = [] })
     (sym (bad_op (permitted c.args.domain.now.calls c.args.number) c.in-None.ensures.none)))
@@ -55,5 +55,5 @@ returns-in-Some-clause-permitted c = λ below.
     subst (λ (op : ℕ). may_make c.args.domain.now.calls op ≡ true) (sym c.make.ensures.operation) c.in-Some.ensures.allowed
 
 pub returns-in-None-clause-permitted : goal.returns-in-None-clause-permitted
-returns-in-None-clause-permitted c = λ below.
-    let op = ap (λ (w : WorkDone). w.op) c.plain.ensures.work in absurd (omega (arith, below, op))
+returns-in-None-clause-permitted c = λ is.
+    let none = sym (ap is_call (ap (λ (w : WorkDone). w.op) c.plain.ensures.work)) ∙ is in absurd (cc none)

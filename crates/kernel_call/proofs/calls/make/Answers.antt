@@ -22,7 +22,7 @@ returns-then-leaves_memory-clause-calls c e readings replies m h logged kept =
     (length replies) c.call_without_memory.result c.no_work-work.result _
     (c.call_without_memory.ensures.answers e readings replies m logged kept)
     (facts_still e c.args.memory.now m c.args.domain.now c.call_without_memory.new.domain h
-    c.call_without_memory.ensures.keeps.map c.call_without_memory.ensures.keeps.calls
+    c.call_without_memory.ensures.keeps.map c.call_without_memory.ensures.keeps.calls c.call_without_memory.ensures.keeps.number
     c.call_without_memory.ensures.pool c.call_without_memory.ensures.caps)
     (c.no_work-work.ensures.work ∙ ap (λ (op : ℕ). record { op = op; zeroed = None; entries = [] }) (sym (own_op c.args.call)))
     (call_of_empties e (dom_model c.args.domain.now readings replies) m (call_number c.args.call)
@@ -38,7 +38,7 @@ returns-in-Ok-clause-calls c e readings replies m h logged kept =
     (facts_done (call_number c.args.call) e c.args.domain.now c.perform.new.domain c.args.memory.now c.perform.new.memory readings replies m
     (slice_index c.args.args 0) (slice_index c.args.args 1) (slice_index c.args.args 2) h
     c.in-Ok.ensures.frames (record { value = c.in-Ok.value; work = c.perform.new.work }) ends)
-    c.reply_to.ensures.keeps.map c.reply_to.ensures.keeps.calls c.reply_to.ensures.pool c.reply_to.ensures.caps)
+    c.reply_to.ensures.keeps.map c.reply_to.ensures.keeps.calls c.reply_to.ensures.keeps.number c.reply_to.ensures.pool c.reply_to.ensures.caps)
     (c.reply_to.ensures.becomes readings replies
     (ap log_model c.in-Ok.ensures.rest.readings ∙ logged) (ap log_model c.in-Ok.ensures.rest.replies ∙ kept))
     c.reply_to.ensures.reply
@@ -58,7 +58,7 @@ returns-in-Ok-clause-valid c =
           (slice_index c.args.args 0) (slice_index c.args.args 1) (slice_index c.args.args 2) v.facts
           c.in-Ok.ensures.frames (record { value = c.in-Ok.value; work = c.perform.new.work })
           (c.in-Ok.ensures.does v.estate [] [] v.mem v.facts))
-          c.reply_to.ensures.keeps.map c.reply_to.ensures.keeps.calls c.reply_to.ensures.pool c.reply_to.ensures.caps;
+          c.reply_to.ensures.keeps.map c.reply_to.ensures.keeps.calls c.reply_to.ensures.keeps.number c.reply_to.ensures.pool c.reply_to.ensures.caps;
     }
 
 pub returns-in-Err-clause-calls : goal.returns-in-Err-clause-calls
@@ -72,7 +72,7 @@ returns-in-Err-clause-calls c e readings replies m h logged kept =
     c.perform.new.memory readings replies m
     (slice_index c.args.args 0) (slice_index c.args.args 1) (slice_index c.args.args 2) h c.in-Err.ensures.frames c.in-Err.error ends
     (ap (λ (d : Domain). d.caps) c.in-Err.ensures.unchanged))
-    c.reply_to-in-Err.ensures.keeps.map c.reply_to-in-Err.ensures.keeps.calls c.reply_to-in-Err.ensures.pool c.reply_to-in-Err.ensures.caps)
+    c.reply_to-in-Err.ensures.keeps.map c.reply_to-in-Err.ensures.keeps.calls c.reply_to-in-Err.ensures.keeps.number c.reply_to-in-Err.ensures.pool c.reply_to-in-Err.ensures.caps)
     c.reply.ensures.value c.reply_to-in-Err.ensures.reply c.in-Err.ensures.unchanged
     (c.reply_to-in-Err.ensures.becomes readings replies
     (ap log_model c.in-Err.ensures.rest.readings ∙ logged) (ap log_model c.in-Err.ensures.rest.replies ∙ kept))
@@ -124,7 +124,7 @@ returns-then-leaves_memory-clause-valid c =
       estate = v.estate;
       mem = v.mem;
       facts = facts_still v.estate c.args.memory.now v.mem c.args.domain.now c.call_without_memory.new.domain v.facts
-          c.call_without_memory.ensures.keeps.map c.call_without_memory.ensures.keeps.calls
+          c.call_without_memory.ensures.keeps.map c.call_without_memory.ensures.keeps.calls c.call_without_memory.ensures.keeps.number
           c.call_without_memory.ensures.pool c.call_without_memory.ensures.caps;
     }
 
@@ -169,7 +169,7 @@ returns-in-Err-clause-valid c =
       facts = facts_still v.estate c.perform.new.memory v.mem c.perform.new.domain c.reply_to-in-Err.new.domain
           (subst₂ (λ (memory : Contents) (d : Domain). HasFacts v.estate memory v.mem d)
           (sym c.in-Err.ensures.memory) (sym c.in-Err.ensures.unchanged) v.facts)
-          c.reply_to-in-Err.ensures.keeps.map c.reply_to-in-Err.ensures.keeps.calls
+          c.reply_to-in-Err.ensures.keeps.map c.reply_to-in-Err.ensures.keeps.calls c.reply_to-in-Err.ensures.keeps.number
           c.reply_to-in-Err.ensures.pool c.reply_to-in-Err.ensures.caps;
     }
 

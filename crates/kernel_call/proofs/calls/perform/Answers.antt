@@ -143,7 +143,7 @@ pub returns-in_default : goal.returns-in_default
 unfolding call_of
 returns-in_default c = record {
   does = λ e readings replies m h.
-      let is : call_number c.args.call ≡ 8 = last_on_memory c.args.call c.requires.first c.requires.last
+      let is : call_number c.args.call ≡ 8 = last_on_memory c.args.call c.requires.on_memory
       c.in_default.not-Put c.in_default.not-Alloc c.in_default.not-Table c.in_default.not-Map c.in_default.not-Unmap
       c.in_default.not-Copy c.in_default.not-Delete in
       performed (call_number c.args.call) 8 e c.args.domain.now c.revoke.new.domain c.revoke.new.memory

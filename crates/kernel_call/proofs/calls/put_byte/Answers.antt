@@ -27,4 +27,4 @@ returns-clause-does c work fresh e readings replies m h =
     (ap (λ (bytes : List ℕ). let d = dom_model c.args.domain.now readings replies in record d { printed = bytes }) printed)
     h.holds
     (tells_nothing 1 (work_model work) refl fresh)
-    (has_still e c.args.domain.now _ h.has refl refl refl refl)
+    (has_still e c.args.domain.now _ h.has refl refl refl refl refl)

@@ -64,7 +64,7 @@ returns-in_default c = record {
       let none : slice_get c.args.domain.now.pool.free 0 ≡ None = sym c.take.ensures.value ∙ c.in_default.is in
       ends_none e c.args.domain.now _ c.args.memory.now readings replies m c.args.a c.args.b h c.if-a-ge-SLOTS.false
       (empty (cap_at c.args.domain.now.caps c.args.a) unused) c.if-b-gt1.false error.NoFrame refl none refl
-      refl refl c.take.ensures.becomes;
+      refl refl refl c.take.ensures.becomes;
   rest = rest_of c.args.domain.now _ _ _ _ refl;
   unchanged =
       same_parts c.args.domain.now _ _ _ refl
@@ -105,7 +105,7 @@ returns c = record {
         value = t.value;
         holds = t.holds;
         work = t.told;
-        has = record { root = t.root; pool = t.free; slots = t.slots; calls = h.has.calls };
+        has = record { root = t.root; pool = t.free; slots = t.slots; calls = h.has.calls; number = h.has.number };
       };
   rest = rest_of c.args.domain.now _ _ _ _ refl;
   unchanged = tt;

@@ -92,7 +92,7 @@ returns c = record {
         value = t.value;
         holds = t.holds;
         work = t.told;
-        has = record { root = t.root; pool = t.free; slots = t.slots; calls = h.has.calls };
+        has = record { root = t.root; pool = t.free; slots = t.slots; calls = h.has.calls; number = h.has.number };
       };
   rest = rest_of c.args.domain.now _ _ _ _ c.clear_entry.ensures.map;
   unchanged = tt;

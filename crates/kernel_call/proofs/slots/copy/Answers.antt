@@ -109,7 +109,7 @@ returns c = record {
       (ap (λ (caps : Slots). with_caps caps (dom_model c.args.domain.now readings replies)) caps)
       h.holds
       (tells_nothing 6 (work_model work) refl fresh)
-      (has_set e c.args.domain.now _ c.args.b _ h.has refl refl refl caps
+      (has_set e c.args.domain.now _ c.args.b _ h.has refl refl refl refl caps
       (free_copied e c.args.domain.now.caps c.args.a c.args.b c.args.c c.in_ok-cap.cap h.has.slots below in_range there empty));
   rest = rest_of c.args.domain.now _ _ _ _ refl;
   unchanged = tt;

@@ -127,7 +127,7 @@ returns-in-Err c = record {
       subst (λ (r : ℕ). install_refusal m r c.args.b ≡ Some c.in-Err.refusal) h.has.root (c.in-Err.ensures.refused m h.holds) in
       ends_refused 3 e c.args.domain.now _ c.install_table.new.mem m readings replies c.refusal_error.result _
       (subst (λ x. Holds x m) (sym c.in-Err.ensures.unchanged) h.holds)
-      (has_still e c.args.domain.now _ h.has c.install_table.ensures.root refl refl refl)
+      (has_still e c.args.domain.now _ h.has c.install_table.ensures.root refl refl refl refl)
       (install_refused e (dom_model c.args.domain.now readings replies) m c.args.a c.args.b c.in-Table.frame c.in-Table.installed
       below there c.in-Err.refusal aligned none refusal
       ∙ ap (λ (n : ℕ). reads m (inl (refused n (dom_model c.args.domain.now readings replies)))) (sym c.refusal_error.ensures.value));
@@ -166,7 +166,7 @@ returns c = record {
       holds
       (tells_entry 3 c.in-Ok.entry (table_entry e.root c.args.b) (work_model c.tell_entry.new.work) refl
       (c.tell_entry.ensures.written 3 c.requires.fresh) entry)
-      (has_set e c.args.domain.now _ c.args.a _ h.has c.install_table.ensures.root refl refl caps
+      (has_set e c.args.domain.now _ c.args.a _ h.has c.install_table.ensures.root refl refl refl caps
       (free_table e c.args.domain.now.caps c.args.a c.in-Table.frame c.in-Table.installed (Some c.args.b) h.has.slots below there));
   rest = rest_of c.args.domain.now _ _ _ _ c.install_table.ensures.root;
   unchanged = tt;

@@ -138,7 +138,7 @@ returns-in-Err c = record {
       subst (λ (r : ℕ). map_refusal m r c.args.b ≡ Some c.in-Err.refusal) h.has.root (c.in-Err.ensures.refused m h.holds) in
       ends_refused 4 e c.args.domain.now _ c.map.new.mem m readings replies c.refusal_error.result _
       (subst (λ x. Holds x m) (sym c.in-Err.ensures.unchanged) h.holds)
-      (has_still e c.args.domain.now _ h.has c.map.ensures.root refl refl refl)
+      (has_still e c.args.domain.now _ h.has c.map.ensures.root refl refl refl refl)
       (map_refused e (dom_model c.args.domain.now readings replies) m c.args.a c.args.b c.args.c
       c.in-Frame.frame c.in-Frame.rights c.in-Frame.mapped below there c.in-Err.refusal may aligned none refusal
       ∙ ap (λ (n : ℕ). reads m (inl (refused n (dom_model c.args.domain.now readings replies)))) (sym c.refusal_error.ensures.value));
@@ -182,7 +182,7 @@ returns c = record {
       holds
       (tells_entry 4 c.in-Ok.entry (page_entry m e.root c.args.b) (work_model c.tell_entry.new.work) refl
       (c.tell_entry.ensures.written 4 c.requires.fresh) entry)
-      (has_set e c.args.domain.now _ c.args.a _ h.has c.map.ensures.root refl refl caps
+      (has_set e c.args.domain.now _ c.args.a _ h.has c.map.ensures.root refl refl refl caps
       (free_page e c.args.domain.now.caps c.args.a c.in-Frame.frame c.in-Frame.rights c.in-Frame.mapped
       (Some c.args.b) h.has.slots below there));
   rest = rest_of c.args.domain.now _ _ _ _ c.map.ensures.root;

@@ -107,7 +107,7 @@ returns c = record {
       holds
       (tells_entry_emptied 5 c.unmap-entry.result (page_entry m e.root c.in_ok-va.va)
       (work_model c.tell_entry.new.work) refl (c.tell_entry.ensures.written 5 c.requires.fresh) entry)
-      (has_set e c.args.domain.now _ c.args.a _ h.has c.unmap-entry.ensures.root refl refl caps
+      (has_set e c.args.domain.now _ c.args.a _ h.has c.unmap-entry.ensures.root refl refl refl caps
       (free_page e c.args.domain.now.caps c.args.a c.in-Frame.frame c.in-Frame.rights c.in-Frame.mapped None h.has.slots below there));
   rest = rest_of c.args.domain.now _ _ _ _ c.unmap-entry.ensures.root;
   unchanged = tt;

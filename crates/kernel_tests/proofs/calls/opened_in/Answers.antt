@@ -1,13 +1,18 @@
 -- For the tests: calls can be made of the domain that they begin with.
-use Rattle.std.proofs.Common.{rules, ◌≡◌, ◌∙◌, ap, sym, [], ◌∷◌, Some}
+use Rattle.std.proofs.Common.{rules, ℕ, ◌≡◌, ◌∙◌, ap, sym, [], ◌∷◌, Some}
 use Rattle.std.specs.Prelude.{slice_get}
 use Rattle.std.proofs.lemmas.Option.{same_Some}
 use Rattle.frame_colours.specs.Colours.{whole_of, share_of}
 use Rattle.frame_colours.specs.FreeList.{FreeList, all_free, without_least}
 use Rattle.phys_mem.specs.Contents.{zeroed}
-use Rattle.kernel_clone.specs.Permissions.{every_call}
+use Rattle.kernel_clone.specs.Permissions.{every_call, calls_below}
 use Rattle.kernel_tests.proofs.Opening.{slots_of, first_of, second_of, is_valid}
 use Rattle.kernel_tests.proofs.calls.opened_in.Goals as goal
+
+-- the bits of all calls
+every : {calls : ℕ} → calls ≡ 32767 → calls ≡ every_call
+unfolding calls_below
+every is = is
 
 pub returns : goal.returns
 returns c =
@@ -25,10 +30,11 @@ returns c =
     let at : c.in_ok-domain.domain.map ≡ c.in_ok-ok_or.field-0 = search rules in
     let free : c.in_ok-domain.domain.pool ≡ without_least (without_least c.in_ok-pool.pool) = search rules in
     let caps : c.in_ok-domain.domain.caps ≡ slots_of c.in_ok-ok_or-2.field-0 = search rules in
-    let calls : c.in_ok-domain.domain.calls ≡ every_call = search rules in
+    let calls : c.in_ok-domain.domain.calls ≡ every_call = every (search rules) in
+    let number : c.in_ok-domain.domain.number ≡ 0 = search rules in
     record {
       valid =
           is_valid c.args.memory.now c.table-root.new.memory c.table-table.new.memory c.in_ok-ok_or.field-0 c.in_ok-ok_or-2.field-0
           c.in_ok-domain.domain c.requires.size c.requires.zero one five then after at
-          (free ∙ ap (λ (l : FreeList). without_least (without_least l)) pool_is) caps calls;
+          (free ∙ ap (λ (l : FreeList). without_least (without_least l)) pool_is) caps calls number;
     }

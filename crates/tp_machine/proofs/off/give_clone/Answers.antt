@@ -37,6 +37,7 @@ loop-d-preserved c =
               map = refl;
               pool = refl;
               calls = refl;
+              number = refl;
               retired = refl;
               readings = refl;
               replies = refl;

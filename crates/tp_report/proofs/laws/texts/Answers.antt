@@ -2,7 +2,7 @@
 use Rattle.std.proofs.Common.{refl}
 use Rattle.std.specs.Fmt.{digits}
 use Rattle.tp_report.specs.Report.{switch_line, end_text, usage_text, refusal_text, bound_text, bound_2_text, shared_parts_text, entries_text, entry_text, entry_line, accepted_text, too_long_text, unprotected_text}
-use Rattle.kernel_clone.specs.Permissions.{may_make}
+use Rattle.kernel_clone.specs.Permissions.{may_make, calls_below}
 use Rattle.pad_bound.specs.Bound.{worst_instruction, worst_operation, worst_leave, worst_prefetch, worst_flush, worst_enter, bound_of, most_written}
 use Rattle.hex.specs.Hex.{encode_with}
 use Rattle.tp_report.specs.Texts.{h8, state_text, register_text, registers_text, thread_line, thread_text, threads_text}
@@ -36,7 +36,7 @@ returns-clause-bound c = refl
 
 pub returns-clause-bound_2 : goal.returns-clause-bound_2
 unfolding bound_2_text shared_parts_text entries_text entry_text entry_line worst_instruction worst_operation
-    worst_leave worst_prefetch worst_flush worst_enter bound_of most_written may_make digits
+    worst_leave worst_prefetch worst_flush worst_enter bound_of most_written may_make calls_below digits
 returns-clause-bound_2 c = refl
 
 pub returns-clause-accepted : goal.returns-clause-accepted

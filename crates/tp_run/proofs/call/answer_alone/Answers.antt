@@ -1,6 +1,5 @@
-use Rattle.std.proofs.Common.{◌<◌, ◌≤◌, ◌∙◌, length, sym, subst, arith}
+use Rattle.std.proofs.Common.{◌<◌, ◌≤◌, ◌∙◌, sym, subst, arith}
 use Rattle.tp_io.specs.Sink.{state}
-use Rattle.image_check.specs.Own.{owns_of}
 use Rattle.image_check.specs.Image.{image_from}
 use Rattle.tp_report.specs.Report.{usage_text}
 use Rattle.tp_answer.specs.Answer.{Answer, answer_of_record}
@@ -15,7 +14,7 @@ pub returns-then-domain-domains_of : goal.returns-then-domain-domains_of
 unfolding answer_of_record
 returns-then-domain-domains_of g c =
     let asked = Alone c.args.domain c.args.slots in
-    let has : c.args.domain < length (owns_of c.in-Ok.image) = omega arith in
+    let has : c.args.domain < (image_from c.in-Ok.image).all.domains = omega arith in
     let due =
     found_due asked (record_for asked c.args.bytes.now) _
     (c.in-Ok.ensures.alone c.args.domain c.args.slots)
@@ -30,7 +29,7 @@ pub returns-else-domain-domains_of : goal.returns-else-domain-domains_of
 unfolding answer_of_record
 returns-else-domain-domains_of g c =
     let asked = Alone c.args.domain c.args.slots in
-    let lacks : length (owns_of c.in-Ok.image) ≤ c.args.domain = omega arith in
+    let lacks : (image_from c.in-Ok.image).all.domains ≤ c.args.domain = omega arith in
     let due =
     found_due asked (record_for asked c.args.bytes.now) _
     (c.in-Ok.ensures.alone c.args.domain c.args.slots)

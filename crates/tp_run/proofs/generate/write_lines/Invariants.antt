@@ -1,4 +1,4 @@
-use Rattle.std.proofs.Common.{length, take}
+use Rattle.std.proofs.Common.{take}
 use Rattle.std.specs.List.{flat_map, range_with_len}
 use Rattle.tp_io.specs.Sends.{Sent}
 use Rattle.tp_io.specs.Sink.{state}
@@ -10,4 +10,4 @@ abbrev pub invariant-loop-d : goal.invariant-loop-d
 invariant-loop-d g l =
     let i = image_from l.machine.record_of in
     Sent (state g.K.Sink l.fn.out) (state g.K.Sink l.out)
-    (flat_map (demo_line i l.machine.slots) (take l.d (range_with_len 0 (length i.owns))))
+    (flat_map (demo_line i l.machine.slots) (take l.d (range_with_len 0 i.all.domains)))

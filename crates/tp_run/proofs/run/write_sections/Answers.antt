@@ -1,4 +1,4 @@
-use Rattle.std.proofs.Common.{length, rules}
+use Rattle.std.proofs.Common.{rules}
 use Rattle.std.proofs.lemmas.Result.{err_from_is_err_and}
 use Rattle.world_view.specs.View.{view_in}
 use Rattle.tp_report.specs.Report.{section_of, sections}
@@ -12,7 +12,7 @@ returns-in_err-write_domain g c =
     let i = g.M.Reported.image m in
     let p = err_from_is_err_and c.from_residual.result c.from_residual.ensures.1 in
     rw p.1 (record {
-      sends = cut_in_number (section_of i (λ e. view_in i e (g.M.Reported.world m))) (length i.owns) c.loop-d.d _ _ _
+      sends = cut_in_number (section_of i (λ e. view_in i e (g.M.Reported.world m))) i.all.domains c.loop-d.d _ _ _
           (search rules) c.loop-d.invariant c.in_err-write_domain.ensures.sends;
     })
 
@@ -20,7 +20,7 @@ pub loop-d-preserved : goal.loop-d-preserved
 loop-d-preserved g c =
     let m = c.args.machine.now in
     let i = g.M.Reported.image m in
-    number_sent (section_of i (λ e. view_in i e (g.M.Reported.world m))) (length i.owns) c.loop-d.d _ _ _
+    number_sent (section_of i (λ e. view_in i e (g.M.Reported.world m))) i.all.domains c.loop-d.d _ _ _
     (search rules) c.loop-d.invariant c.in_ok-write_domain.ensures.sends
 
 pub returns : goal.returns
@@ -29,6 +29,6 @@ returns g c =
     let m = c.args.machine.now in
     let i = g.M.Reported.image m in
     record {
-      sends = numbers_sent (section_of i (λ e. view_in i e (g.M.Reported.world m))) (length i.owns) c.loop-d.d _ _
+      sends = numbers_sent (section_of i (λ e. view_in i e (g.M.Reported.world m))) i.all.domains c.loop-d.d _ _
           (search rules) c.loop-d.invariant;
     }

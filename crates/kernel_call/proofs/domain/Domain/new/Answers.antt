@@ -20,6 +20,7 @@ returns c = record {
   threads = refl;
   layout = refl;
   calls = refl;
+  number = refl;
 }
 
 pub invariant_of-result : goal.invariant_of-result
