@@ -1,6 +1,6 @@
 //! The tests of what the machine is built of: instructions, page walks, memory,
-//! schedules, interrupts, footprints, costs, bounds, and what reads and writes, through
-//! their public calls.
+//! schedules, interrupts, mailboxes, footprints, costs, bounds, and what reads and
+//! writes, through their public calls.
 #![tactic(auto)]
 
 #[cfg(test)]
@@ -15,6 +15,8 @@ mod instruction_words;
 mod instructions;
 #[cfg(test)]
 mod interrupts;
+#[cfg(test)]
+mod mailboxes;
 #[cfg(test)]
 mod page_walks;
 #[cfg(test)]

@@ -1,0 +1,4 @@
+pub mod Slots
+pub mod Sides
+pub mod Calls
+pub mod Moves
