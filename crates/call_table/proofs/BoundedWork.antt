@@ -1,8 +1,8 @@
 -- What each call notes: which calls empty the translation buffer, how much one call writes, and where.
-use Rattle.std.proofs.Common.{◌≡◌, ◌∙◌, ap, sym, subst, refl, ◌⊎◌, ℕ, ◌<◌, ◌≤◌, Bool, true, false, arith, eqb-true, ne_eqb, leb-true, leb-false, ◌/◌, List, [], ◌∷◌, length, Some, None}
+use Rattle.std.proofs.Common.{◌≡◌, ◌∙◌, ap, sym, subst, refl, ◌⊎◌, ℕ, ◌<◌, ◌≤◌, Bool, true, false, arith, eqb-true, ◌/◌, List, [], ◌∷◌, length, Some, None}
 use Rattle.std.proofs.lemmas.List.Elements.{All-nil, All-cons, All-head, All-tail}
 use Rattle.std.specs.List.{All, range_with_len}
-use Rattle.std.specs.Prelude.{nat_eq, nat_le, if◌then◌else◌}
+use Rattle.std.specs.Prelude.{nat_eq, if◌then◌else◌}
 use Rattle.tp_base.specs.Act.{either}
 use Rattle.phys_mem.specs.Mem.{Mem}
 use Rattle.rv_core.specs.Registers.{register}

@@ -1,5 +1,5 @@
 -- A slot in which moments of all domains come, of the code and of the definitions.
-use Rattle.std.proofs.Common.{◌≡◌, ℕ, ◌<◌, ◌≤◌, List, Option, refl, sym, subst, ◌∙◌}
+use Rattle.std.proofs.Common.{◌≡◌, ℕ, ◌<◌, ◌≤◌, List, Option, sym, subst, ◌∙◌}
 use Rattle.phys_mem.specs.Contents.{Contents}
 use Rattle.repl_policy.specs.declared.AnyPolicy.{AnyPolicy}
 use Rattle.guards.specs.declared.Guard.{Guard}
@@ -20,11 +20,6 @@ OpensAlong d end memory system domains now memory' system' domains' later = (off
     → StandsIn off i d w memory system domains now
     → (x : World) × StandsIn off i d x memory' system' domains' later
     × (open_slot (guards_of off i) i d end x ≡ open_slot (guards_of off i) i d end w)
-
-pub along_none : (d end : ℕ) (memory : Contents) (system : SystemContents AnyPolicy)
-    (domains : List Domain) (now : ℕ)
-    → OpensAlong d end memory system domains now memory system domains now
-along_none d end memory system domains now off i w is = (w, is, refl)
 
 module _ (d end : ℕ) (memory between memory' : Contents) (system middle system' : SystemContents AnyPolicy)
     (old now new : List Domain) (first clock later : ℕ) where

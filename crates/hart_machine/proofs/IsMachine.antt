@@ -18,7 +18,7 @@ use Rattle.hart_machine.proofs.Work.{IsIn, runs_leaves, runs_same}
 use Rattle.hart_machine.proofs.Turns.{switched_same}
 use Rattle.hart_machine.proofs.Costs.{switched_leaves, cycles_alike}
 use Rattle.hart_machine.proofs.Events as events
-use Rattle.hart_machine.proofs.Events.{stands, ran, is_early, place, cycles, works_world, works_progress, works_used, turns_progress, turns_used}
+use Rattle.hart_machine.proofs.Events.{stands, is_early, place, cycles, works_world, works_progress, works_used, turns_progress, turns_used}
 use Rattle.hart_machine.proofs.Reached as reached
 use Rattle.hart_machine.proofs.Reached.{next_reached, first_of, none_used, run, is_in, is_in_time, begun_soon}
 

@@ -9,7 +9,7 @@ use Rattle.world_view.specs.Harts.{Harts, next, harts}
 use Rattle.world_view.specs.HartLaws.{AreHartsOf}
 use Rattle.world_view.proofs.harts.Isolation.{next_law}
 use Rattle.hart_set.specs.declared.set.State.{State}
-use Rattle.hart_set.specs.Standing.{AtHart, StandsFor}
+use Rattle.hart_set.specs.Standing.{StandsFor}
 use Rattle.hart_set.specs.Models.{image_of, harts_after, StandsAfter}
 use Rattle.hart_orders.specs.declared.choice.Choice.{Choice}
 use Rattle.hart_orders.specs.Order.{next_hart, events_from, cycles_before, order_of}
@@ -65,17 +65,6 @@ module _ (v : Raw × State) (c : Choice) (n : ℕ) (At : ℕ → Harts → Type 
     over none =
         let whole = ap (λ (es : List ℕ). so_far.order ++ es) (event_is f so_far.events s None none) in
         subst (StandsAfter v) (sym (append-nil so_far.order) ∙ sym whole ∙ so_far.rest) so_far.stands
-
-    -- somebody is: it has slots left
-    pub there : (h : ℕ) → next_hart i c n so_far.events s ≡ Some h → h < harts_in i.all.schedule
-    there h is = (has_left i c n so_far.events h s is).0
-
-    pub few : (h : ℕ) → n ≤ 65536 → next_hart i c n so_far.events s ≡ Some h
-        → AtHart v.1 h (λ x. x.slots < 65536)
-    few h most is x at =
-        let left = (has_left i c n so_far.events h s is).1 in
-        let same = (so_far.stands.each_hart h x at).slots in
-        omega (arith, left, same, most)
 
     -- and it has its event
     pub one_more : (h : ℕ) (t : State) (Later : ℕ → Harts → Type 0) → next_hart i c n so_far.events s ≡ Some h

@@ -1,7 +1,6 @@
 -- A call by its number, and what is left after its reply.
-use Rattle.std.proofs.lemmas.Bool.{lt-leb}
-use Rattle.std.proofs.Common.{◌≡◌, ◌≢◌, ℕ, ◌<◌, ◌≤◌, ◌/◌, ◌^◌, take, Bool, true, false, ◌&&◌, List, [], length, Option, Some, None, Ok, Err, ◌⊎◌, refl, ap, sym, subst, ◌∙◌, arith, leb-false, ne_eqb}
-use Rattle.std.specs.Prelude.{nat_eq, nat_le, if◌then◌else◌, Result, All, IfSome}
+use Rattle.std.proofs.Common.{◌≡◌, ◌≢◌, ℕ, ◌<◌, ◌≤◌, ◌/◌, ◌^◌, take, Bool, true, false, ◌&&◌, List, [], length, Option, Some, None, Ok, Err, ◌⊎◌, refl, ap, sym, subst, ◌∙◌, arith}
+use Rattle.std.specs.Prelude.{nat_eq, if◌then◌else◌, Result, All, IfSome}
 use Rattle.std.proofs.lemmas.List.{length-take}
 use Rattle.std.proofs.lemmas.List.Elements.{All-weaker}
 use Rattle.tp_base.specs.Ranges.{IsFrameNo}

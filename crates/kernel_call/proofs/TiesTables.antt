@@ -1,7 +1,7 @@
 -- How MAP, TABLE and UNMAP run, to each of their ends.
 use Rattle.std.proofs.Common.{◌≡◌, ℕ, ◌<◌, ◌%◌, Bool, true, false, not, List, [], ◌∷◌, Option, Some, None, inl, inr, refl, ap, sym, ◌∙◌, ap₂, length, Ok, Err}
 use Rattle.std.specs.Option.{ok_or}
-use Rattle.std.specs.Prelude.{is_some, nat_eq, nat_le, if◌then◌else◌}
+use Rattle.std.specs.Prelude.{is_some, nat_eq, if◌then◌else◌}
 use Rattle.tp_base.specs.Act as act
 use Rattle.tp_base.specs.Act.{give}
 use Rattle.phys_mem.specs.Mem.{Mem}

@@ -1,5 +1,5 @@
 -- Which calls may be made, bit by bit.
-use Rattle.std.proofs.Common.{◌≡◌, ◌∙◌, ◌<◌, ◌≤◌, ◌+◌, ◌-◌, ◌*◌, ◌/◌, ◌%◌, ◌^◌, ℕ, zero, suc, Bool, true, false, ap, sym, subst, refl, arith, lit≤, inl, inr, ne_eqb}
+use Rattle.std.proofs.Common.{◌≡◌, ◌∙◌, ◌<◌, ◌≤◌, ◌+◌, ◌-◌, ◌*◌, ◌/◌, ◌%◌, ◌^◌, ℕ, zero, suc, Bool, true, false, ap, sym, subst, arith, lit≤, inl, inr, ne_eqb}
 use Rattle.std.specs.Prelude.{nat_eq, not, ◌&&◌, if◌then◌else◌}
 use Rattle.std.proofs.lemmas.Bool.{cases_lt, lt-leb}
 use Rattle.std.proofs.lemmas.Nat.{pow-add, pow_pos, div-mul-add}

@@ -1,5 +1,5 @@
 -- How many lines the calls write that a domain may make.
-use Rattle.std.proofs.Common.{◌≡◌, ◌∙◌, ◌≤◌, ◌+◌, ◌/◌, ℕ, Option, Some, None, Bool, true, false, ap, subst, refl, arith, lit≤, inl, inr, mul-le-mul_right}
+use Rattle.std.proofs.Common.{◌≡◌, ◌∙◌, ◌≤◌, ◌+◌, ◌/◌, ℕ, Option, Some, None, Bool, true, false, ap, subst, refl, arith, inl, inr, mul-le-mul_right}
 use Rattle.std.specs.Prelude.{max, nat_eq, if◌then◌else◌}
 use Rattle.std.proofs.lemmas.Bool.{cases_Bool, or_cases, cond_both, eqb-true}
 use Rattle.kernel_clone.specs.Footprints.{Layout, call_number}

@@ -1,5 +1,5 @@
 -- What the parts are the worst of: footprints whose every line costs the most.
-use Rattle.std.specs.Prelude.{◌≡◌, ℕ, ◌+◌, ◌<◌, ◌≤◌, nat_eq, Bool, ◌||◌, if◌then◌else◌, true, false, List, [], length, map, Some, None}
+use Rattle.std.specs.Prelude.{◌≡◌, ℕ, ◌+◌, ◌≤◌, nat_eq, Bool, ◌||◌, if◌then◌else◌, true, false, List, [], length, map, Some, None}
 use Rattle.std.specs.List.{range_with_len, sum_by}
 use Rattle.cycle_cost.specs.Costs.{CostTable}
 use Rattle.kernel_clone.specs.Footprints.{Layout, WorkDone, LineTouch, call_number, is_of_switch, touch_of, shared_line, shared_lines}

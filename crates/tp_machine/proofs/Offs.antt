@@ -108,16 +108,6 @@ own_moments (Some guard.Colour) i other = refl
 own_moments (Some guard.Clone) i other = refl
 own_moments (Some guard.Irq) i other = absurd (other refl)
 
-pub pads_not : (off : Option Guard) (i : Image) → off ≡ Some guard.Pad → false ≡ (guards_of off i).pad
-unfolding guarded
-pads_not None i is = absurd (cc is)
-pads_not (Some guard.Flush) i is = absurd (cc is)
-pads_not (Some guard.Prefetch) i is = absurd (cc is)
-pads_not (Some guard.Pad) i is = refl
-pads_not (Some guard.Colour) i is = absurd (cc is)
-pads_not (Some guard.Clone) i is = absurd (cc is)
-pads_not (Some guard.Irq) i is = absurd (cc is)
-
 pub pads : (off : Option Guard) (i : Image) → off ≢ Some guard.Pad → true ≡ (guards_of off i).pad
 unfolding guarded
 pads None i other = refl

@@ -3,5 +3,4 @@ pub mod Fuel
 pub mod CodeLaws
 pub mod EventLaws
 pub mod StepLaws
-pub mod InSlot
 pub mod Clones

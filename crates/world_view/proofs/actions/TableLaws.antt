@@ -33,10 +33,6 @@ module _ (p : Hardware) (o : Own) (f : ℕ) where
   unfolding estate
   own_mine is = is
 
-  pub others : is_mine (estate p o) f ≡ false → own_frame p o f ≡ false
-  unfolding estate
-  others is = is
-
   pub not_mine : own_frame p o f ≡ false → is_mine (estate p o) f ≡ false
   unfolding estate
   not_mine is = is

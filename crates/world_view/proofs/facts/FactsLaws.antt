@@ -13,8 +13,8 @@ use Rattle.sched_table.specs.Schedule.{entry_of_slot}
 use Rattle.world_view.specs.Frames.{own_frame}
 use Rattle.world_view.specs.Kernel.{opening_dom, no_dom}
 use Rattle.world_view.specs.Event.{Storage, interrupts_of}
-use Rattle.world_view.specs.Machine.{with_hart, clock_of, Guards, setting_by, delivered, Local, World, step, steps, dom_of, part_of, with_part, Owned, if_due, first_of, first_due, delivered_or_step, step_among, steps_among, slot_if, switch, opening, whole, guarded, own_slot, ends_by, run_slot_by, switch_by, switch_on, whole_by, with_end}
-use Rattle.world_view.specs.Relations.{IsDomain, HasFacts}
+use Rattle.world_view.specs.Machine.{with_hart, clock_of, Guards, setting_by, delivered, Local, World, step, steps, dom_of, part_of, with_part, Owned, if_due, first_of, first_due, delivered_or_step, step_among, steps_among, slot_if, opening, own_slot, ends_by, run_slot_by, switch_by, switch_on, whole_by, with_end}
+use Rattle.world_view.specs.Relations.{IsDomain}
 use Rattle.world_view.proofs.opening.Separate.{Separated}
 use Rattle.world_view.proofs.facts.RightsLaws.{HasBoth, both_with, same_caps, step_keeps_both}
 use Rattle.world_view.proofs.opening.OpeningFacts.{kernel_of, parties_of}
@@ -183,16 +183,3 @@ module _ (i : Image) (r : Separated i) where
         let begun = switch_by g i k w in
         let d = (entry_of_slot i.all.schedule k).domain in
         slot_keeps g.irq d (ends_by g i k (clock_of 0 begun)) begun (r.named k) (switch_keeps k w (at_slot k))
-
-    pub all_facts_by : (k d : ℕ) → IsDomain i d
-        → HasFacts i.all.hardware (own_of i d) (dom_of (whole_by g i k) d) (whole_by g i k).storage
-    all_facts_by k d is = (at_slot k d is).facts
-
-  pub all_facts : (k d : ℕ) → IsDomain i d
-      → HasFacts i.all.hardware (own_of i d) (dom_of (whole i k) d) (whole i k).storage
-  all_facts = all_facts_by (guarded i)
-
-  pub begun_facts : (k d : ℕ) → IsDomain i d
-      → HasFacts i.all.hardware (own_of i d) (dom_of (switch i k (whole i k)) d)
-      (switch i k (whole i k)).storage
-  begun_facts k d is = (switch_keeps (guarded i) k (whole i k) (at_slot (guarded i) k) d is).facts

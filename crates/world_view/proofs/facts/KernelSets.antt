@@ -1,33 +1,29 @@
 -- The second level's sets of colour 0 keep shared lines alone, through each step and in the midst of each switch, and none of
 -- them is dirty.
 use Rattle.std.proofs.Common.{◌≡◌, ℕ, zero, suc, ◌-◌, Bool, false, ap, sym, ◌∙◌, List, ◌∷◌, ◌++◌, length, take, Option, Some, None, refl, subst, le_refl}
-use Rattle.tp_base.specs.Table.{at, put}
 use Rattle.std.proofs.lemmas.List.{take_all}
 use Rattle.std.proofs.lemmas.Option.{same_Some}
 use Rattle.set_cache.proofs.Dirty.{EachDirty-empty}
 use Rattle.mem_system.specs.Cost.{Touch, Flush, Caches, Touched, cold, fresh_core, flushed, on_core, pass_on, touched, touched_all, and_then}
 use Rattle.mem_system.specs.Operations as operations
 use Rattle.mem_system.specs.Operations.{leave, leave_if, enter, prefetch}
-use Rattle.mem_system.specs.Sharing as sharing
 use Rattle.mem_system.specs.Sharing.{IsOwnLine, IsSharing, MayTouchAll}
 use Rattle.mem_system.proofs.Clean.{cold_clean_law, stays_clean_law}
 use Rattle.mem_system.proofs.OwnTouches.{may_append, prefetch_may}
 use Rattle.mem_system.proofs.KernelSets.{empty_law, shared_alone_law, any_colour, any_may, take_may}
 use Rattle.hardware_check.specs.Hardware.{Hardware}
 use Rattle.image_check.specs.Image.{Image, own_of}
-use Rattle.sched_table.specs.Schedule.{entry_of_slot, slot_end, outgoing}
+use Rattle.sched_table.specs.Schedule.{entry_of_slot, outgoing}
 use Rattle.world_view.specs.Kernel.{layout}
 use Rattle.world_view.specs.Cost.{hierarchy, region, own_colour}
-use Rattle.world_view.specs.Machine.{with_hart, caches_of, clock_of, setting, Local, World, clone_of, prefetch_part, flush_part, enter_part, leave_by, prefetch_by, flush_by, switch_work_by, step, part_of, with_part, switch, opening, whole, guarded, own_slot, run_slot_by, switch_by, switch_on, whole_by, with_end}
-use Rattle.world_view.specs.Relations.{IsDomain, HasFacts, KeepsSharedAlone, KernelIsClean, OwnDirty, left_colours}
+use Rattle.world_view.specs.Machine.{caches_of, setting, Local, World, clone_of, prefetch_part, flush_part, enter_part, leave_by, prefetch_by, flush_by, switch_work_by, step, guarded, switch_by, switch_on}
+use Rattle.world_view.specs.Relations.{IsDomain, HasFacts, KeepsSharedAlone, KernelIsClean, OwnDirty}
 use Rattle.world_view.proofs.touches.CostLaws.{own_dirties}
 use Rattle.world_view.specs.EventLaws.{step_touches}
 use Rattle.world_view.proofs.opening.Separate.{Separated}
 use Rattle.world_view.proofs.touches.KernelTouches.{leave_may, enter_may}
 use Rattle.world_view.proofs.opening.OpeningFacts.{kernel_of}
-use Rattle.world_view.proofs.steps.StepLaws.{step_may, step_dirties, step_caches, steps_hold}
-use Rattle.world_view.proofs.steps.InSlot.{local_in}
-use Rattle.world_view.proofs.facts.FactsLaws.{begun_facts}
+use Rattle.world_view.proofs.steps.StepLaws.{step_may, step_caches}
 use Rattle.world_view.proofs.runs.SwitchParts.{all_touches, region_is, switch_is, caches-with}
 
 -- the sets of colour 0 keep shared lines alone, and none of them is dirty
@@ -130,11 +126,6 @@ module _ (i : Image) (r : Separated i) where
       (subst (λ (t : Touched). KernelIsClean p t.caches) (sym (switch_is i out d (caches_of h w)))
       (stays_clean_law (hierarchy p) any_colour (region p) false (touches_in k) (caches_of h w) any_sharing (switch_any k) clean))
 
-  -- after so many steps of a slot
-  record Keeping (k : ℕ) (s : Local) : Type 0 where
-    sets : KernelsSets i.all.hardware s.caches
-    dirty : OwnDirty i.all.hardware (own_of i (entry_of_slot i.all.schedule k).domain) s.caches
-
   -- a step leaves the sets so
   pub step_sets : (d end : ℕ) (s : Local) → IsDomain i d → HasFacts i.all.hardware (own_of i d) s.dom s.storage
       → KernelsSets i.all.hardware s.caches
@@ -145,20 +136,6 @@ module _ (i : Image) (r : Separated i) where
       let kernel = kernel_of i r d is in
       subst (KernelsSets p) (sym (step_caches p o false end s))
       (touched_sets p (own_colour o) kernel.shares (step_touches p o end s) s.caches (step_may p o kernel end s facts) before)
-
-  next : (k : ℕ) (s : Local)
-      → HasFacts i.all.hardware (own_of i (entry_of_slot i.all.schedule k).domain) s.dom s.storage
-      → Keeping k s
-      → Keeping k (step (setting i.all.hardware (own_of i (entry_of_slot i.all.schedule k).domain) false) (slot_end i.all.schedule k) s)
-  next k s facts h =
-      let p = i.all.hardware in
-      let o = own_of i (entry_of_slot i.all.schedule k).domain in
-      let kernel = kernel_of i r (entry_of_slot i.all.schedule k).domain (r.named k) in
-      let end = slot_end i.all.schedule k in
-      record {
-        sets = step_sets (entry_of_slot i.all.schedule k).domain end s (r.named k) facts h.sets;
-        dirty = step_dirties p o kernel false end s facts h.dirty;
-      }
 
   -- as a slot begins, after the flush and the enter of its domain
   pub switched_dirty : (h k : ℕ) (w : World)
@@ -174,37 +151,3 @@ module _ (i : Image) (r : Separated i) where
       subst (OwnDirty p (own_of i d)) (sym (caches-with h w _ _))
       (own_dirties p (own_of i d) kernel false (enter (layout p (own_of i d))) emptied (enter_may p (own_of i d) kernel (region p))
       (EachDirty-empty (IsOwnLine (hierarchy p) (own_colour (own_of i d))) (hierarchy p).l1d))
-
-  in_slot : (k n : ℕ) → KernelsSets i.all.hardware (caches_of 0 (whole i k)) → Keeping k (local_in i k n)
-  unfolding switch_by
-  in_slot k n before =
-      let p = i.all.hardware in
-      let d = (entry_of_slot i.all.schedule k).domain in
-      steps_hold p (own_of i d) (kernel_of i r d (r.named k)) (Keeping k) (slot_end i.all.schedule k) (next k) n
-      (part_of 0 d (switch i k (whole i k))) (begun_facts i r k d (r.named k))
-      (record {
-        sets = switched_sets 0 k (whole i k) before;
-        dirty = switched_dirty 0 k (whole i k);
-      })
-
-  between : (k : ℕ) → KernelsSets i.all.hardware (caches_of 0 (whole i k))
-  unfolding whole_by opening run_slot_by own_slot with_end guarded with_part with_hart at put
-  between zero = cold_sets i.all.hardware (caches_of 0 (whole i 0)) refl
-  between (suc k) =
-      let sets = (in_slot k (slot_end i.all.schedule k - (clock_of 0 (switch i k (whole i k)))) (between k)).sets in
-      record { alone = sets.alone; clean = sets.clean }
-
-  pub between_clean : (k : ℕ) → KernelIsClean i.all.hardware (caches_of 0 (whole i k))
-  between_clean k = (between k).clean
-
-  -- each dirty line is of who leaves: at the boot there is none
-  pub between_dirty : (k : ℕ)
-      → sharing.OwnDirty (hierarchy i.all.hardware) (left_colours i (outgoing i.all.schedule k))
-      (caches_of 0 (whole i k)).core
-  unfolding whole_by opening run_slot_by own_slot with_end guarded with_part with_hart cold fresh_core at put
-  between_dirty zero = EachDirty-empty (IsOwnLine (hierarchy i.all.hardware) (λ _. false)) (hierarchy i.all.hardware).l1d
-  between_dirty (suc k) = (in_slot k (slot_end i.all.schedule k - (clock_of 0 (switch i k (whole i k)))) (between k)).dirty
-
-  pub slots_dirty : (k n : ℕ)
-      → OwnDirty i.all.hardware (own_of i (entry_of_slot i.all.schedule k).domain) (local_in i k n).caches
-  slots_dirty k n = (in_slot k n (between k)).dirty

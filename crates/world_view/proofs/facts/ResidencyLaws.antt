@@ -1,22 +1,20 @@
 -- From the boot on every shared line is in the second level, as each slot begins, and through each switch.
-use Rattle.std.proofs.Common.{◌≡◌, ℕ, zero, suc, ◌-◌, false, ◌∷◌, refl, sym, subst}
+use Rattle.std.proofs.Common.{◌≡◌, ℕ, zero, suc, ◌-◌, false, ◌∷◌, sym, subst}
 use Rattle.tp_base.specs.Table.{at, put}
 use Rattle.mem_system.specs.Cost.{Flush, Caches, cold, and_then, touched_all}
 use Rattle.mem_system.specs.Operations.{leave, enter}
 use Rattle.mem_system.proofs.Residency.{resident}
 use Rattle.image_check.specs.Image.{Image, own_of}
-use Rattle.sched_table.specs.Schedule.{entry_of_slot, slot_end, outgoing}
+use Rattle.sched_table.specs.Schedule.{entry_of_slot, outgoing}
 use Rattle.world_view.specs.Kernel.{layout}
 use Rattle.world_view.specs.Cost.{hierarchy, region}
-use Rattle.world_view.specs.Machine.{with_hart, caches_of, World, prefetch_part, leave_part, enter_part, part_of, with_part, switch, opening, whole, flush_by, guarded, leave_by, own_slot, prefetch_by, run_slot_by, switch_by, switch_on, switch_work_by, whole_by, with_end}
+use Rattle.world_view.specs.Machine.{with_hart, caches_of, World, prefetch_part, leave_part, enter_part, flush_by, guarded, leave_by, prefetch_by, switch_on, switch_work_by}
 use Rattle.world_view.specs.Relations.{Resident}
 use Rattle.world_view.proofs.opening.Separate.{Separated}
 use Rattle.world_view.proofs.touches.Hierarchies.{region_room}
 use Rattle.world_view.proofs.touches.KernelTouches.{leave_may, enter_may}
 use Rattle.world_view.proofs.touches.CostLaws.{own_resident, prefetch_resident}
 use Rattle.world_view.proofs.opening.OpeningFacts.{kernel_of}
-use Rattle.world_view.proofs.steps.StepLaws.{steps_resident}
-use Rattle.world_view.proofs.facts.FactsLaws.{begun_facts}
 
 module _ (i : Image) (r : Separated i) where
   -- after the leave and the prefetch of switch k, on caches
@@ -62,20 +60,3 @@ module _ (i : Image) (r : Separated i) where
   pub switched_resident : (h k : ℕ) (w : World) → Resident i.all.hardware (caches_of h w)
       → Resident i.all.hardware (caches_of h (switch_on (guarded i) i h k w))
   switched_resident h k w there = worked h k w (left_resident k (caches_of h w) there)
-
-  -- after a slot
-  after : (k : ℕ) → Resident i.all.hardware (caches_of 0 (switch i k (whole i k)))
-      → Resident i.all.hardware (caches_of 0 (whole i (suc k)))
-  unfolding whole_by run_slot_by own_slot with_end guarded with_part with_hart at put
-  after k there =
-      let e = (entry_of_slot i.all.schedule k).domain in
-      let begun = part_of 0 e (switch i k (whole i k)) in
-      let end = slot_end i.all.schedule k in
-      steps_resident i.all.hardware (own_of i e) (kernel_of i r e (r.named k)) end (end - begun.clock) begun
-      (begun_facts i r k e (r.named k)) there
-
-  -- as a slot begins: at the boot the caches hold nothing, and the prefetch brings all lines
-  pub begun_resident : (k : ℕ) → Resident i.all.hardware (caches_of 0 (switch i k (whole i k)))
-  unfolding whole_by opening switch_by with_hart at put
-  begun_resident zero = boot_resident 0 (whole i 0) refl
-  begun_resident (suc k) = switched_resident 0 (suc k) (whole i (suc k)) (after k (begun_resident k))

@@ -21,9 +21,8 @@ use Rattle.world_view.specs.Kernel.{estate, layout}
 use Rattle.world_view.specs.Instruction.{stopped, retired_at}
 use Rattle.world_view.specs.Event.{Storage, Event, event, instruction, noted}
 use Rattle.world_view.specs.Event.Event.{Jump, Deliver, Run}
-use Rattle.world_view.specs.Machine.{setting, Local, paid, delivered, happened, step, steps}
+use Rattle.world_view.specs.Machine.{setting, Local, paid, delivered, happened, step}
 use Rattle.world_view.specs.Relations.{SameFrames, IsKernel, HasFacts, HasRights}
-use Rattle.world_view.proofs.steps.Fuel.{steps_by}
 use Rattle.world_view.proofs.actions.TableLaws.{IsPage, walkable, tables_of_frames, own_page, mine_own}
 use Rattle.world_view.proofs.facts.FactsSame.{facts_same}
 use Rattle.world_view.proofs.actions.ActLaws.{facts_of}
@@ -121,8 +120,3 @@ module _ (p : Hardware) (o : Own) where
         → HasBoth p o (step (setting p o pinned) end s).dom (step (setting p o pinned) end s).storage
     unfolding step
     step_keeps_both pinned end s h = event_keeps_both pinned s (event o s.clock end s.dom) h
-
-    pub steps_keep_both : (pinned : Bool) (end n : ℕ) (s : Local) → HasBoth p o s.dom s.storage
-        → HasBoth p o (steps (setting p o pinned) end n s).dom (steps (setting p o pinned) end n s).storage
-    steps_keep_both pinned end n s h =
-        steps_by (setting p o pinned) end (λ (t : Local). HasBoth p o t.dom t.storage) (λ t below k. step_keeps_both pinned end t k) n s h

@@ -5,9 +5,9 @@ use Rattle.tp_base.specs.Table.{at-put_other}
 use Rattle.pad_bound.specs.Bound.{worst_leave, bound_of}
 use Rattle.image_check.specs.Image.{Image}
 use Rattle.image_check.specs.Laws.{Runnable}
-use Rattle.sched_table.specs.Schedule.{switch_entry, place_on, harts_in}
+use Rattle.sched_table.specs.Schedule.{harts_in}
 use Rattle.sched_table.proofs.Starts.{pad_law}
-use Rattle.world_view.specs.Machine.{World, no_hart, hart_of, clock_of, with_part, with_hart, guarded, switch_on, cycles_on, noted}
+use Rattle.world_view.specs.Machine.{World, no_hart, hart_of, clock_of, with_part, with_hart, guarded, switch_on}
 use Rattle.world_view.specs.Relations.{InTime}
 use Rattle.world_view.specs.Harts.{Harts, Progress, image_on, domain_in, start_on, end_on, progress_of, slots_of, proceeds, begins, runs, goes_on, next, harts, next_by, settles}
 use Rattle.world_view.specs.HartLaws.{IsBetween, HartBetweenLaw, HartBegunLaw, HartStartLaw, HartRiseLaw, OneMoreAtMost, HartSlotsLaw, HartStays, HartStaysLaw}

@@ -13,7 +13,7 @@ use Rattle.sched_table.specs.declared.schedule.Entry.{Entry}
 use Rattle.sched_table.specs.Schedule.{entry_in, switch_entry, pad_of, place_on, harts_in}
 use Rattle.sched_table.proofs.Harts.{hart_there_law}
 use Rattle.world_view.specs.Cost.{hierarchy}
-use Rattle.world_view.specs.Machine.{Hart, World, no_hart, hart_of, caches_of, clock_of, dom_of, part_of, with_part, with_hart, guarded, switch_on, cycles_on, noted, no_harts, with_cold, opening}
+use Rattle.world_view.specs.Machine.{Hart, World, no_hart, hart_of, caches_of, clock_of, dom_of, part_of, with_part, with_hart, guarded, switch_on, cycles_on, no_harts, with_cold, opening}
 use Rattle.world_view.specs.Used.{count_of}
 use Rattle.world_view.proofs.steps.CodeLaws.{count_of-push_same, count_of-push_other}
 use Rattle.world_view.specs.Relations.{IsDomain, Resident, KernelIsClean, HasFacts, InTime, Within, Apiece, AllWithinPads}

@@ -1,22 +1,22 @@
 -- Where an image has one hart, the machine that goes from slot to slot is the one that goes from event to event, whichever guards are on.
 use Rattle.std.proofs.Common.{◌≡◌, ◌∙◌, ℕ, zero, suc, ◌+◌, ◌-◌, ◌<◌, ◌≤◌, Bool, true, false, List, [], ◌∷◌, ◌++◌, length, Option, None, Some, inl, inr, ap, ap₂, sym, subst, refl, arith, ltb, ltb-true}
-use Rattle.std.specs.Prelude.{if◌then◌else◌, max}
+use Rattle.std.specs.Prelude.{if◌then◌else◌}
 use Rattle.std.specs.List.{All}
 use Rattle.std.proofs.lemmas.Bool.{cases_eq, ltb-false}
 use Rattle.std.proofs.lemmas.List.Elements.{All-head, All-tail}
-use Rattle.tp_base.specs.Table.{Table, at, put, at-put_same, at-put_other, at-empty}
+use Rattle.tp_base.specs.Table.{at, put, at-put_same, at-put_other, at-empty}
 use Rattle.guards.specs.declared.Guard.{Guard}
 use Rattle.mem_system.specs.Cost.{Caches, Touched}
 use Rattle.irq_partition.specs.Interrupts.{next_of}
-use Rattle.sched_table.specs.Schedule.{entry_of_slot, switch_entry, slot_end, last_end, outgoing, place_on, on_hart, harts_in}
+use Rattle.sched_table.specs.Schedule.{entry_of_slot, switch_entry, slot_end, last_end, outgoing, place_on, harts_in}
 use Rattle.image_check.specs.Public.{Public}
 use Rattle.image_check.specs.Image.{Image, own_of}
 use Rattle.image_check.specs.Laws.{Runnable}
 use Rattle.call_table.specs.Domain.{Dom, is_running}
 use Rattle.world_view.specs.Kernel.{no_dom}
 use Rattle.world_view.specs.Event.{Storage, interrupts_of}
-use Rattle.world_view.specs.Machine.{Local, World, Guards, guards_of, Owned, if_due, first_of, first_due, delivered, delivered_or_step, step_among, steps_among, open_slot, own_slot, own_step, event_if, slot_if, clock_of, ended_of, dom_of, part_of, with_part, with_hart, with_end, setting_by, step, stretch, work_on, switch_work_by, switch_on, switch_by, cycles_on, ended_by, begins_by, ends_by, noted, opening, no_harts, run_slot_by, whole_by}
-use Rattle.world_view.specs.Harts.{Harts, Progress, IsOnOneHart, image_on, progress_of, slots_of, proceeds, settles, begins, runs, goes_on, next_by, all_cold, harts_by, after_by}
+use Rattle.world_view.specs.Machine.{Local, World, Guards, guards_of, Owned, if_due, first_of, first_due, delivered, delivered_or_step, step_among, steps_among, open_slot, own_slot, own_step, event_if, slot_if, clock_of, ended_of, dom_of, part_of, with_part, with_hart, with_end, setting_by, step, stretch, switch_work_by, switch_on, switch_by, cycles_on, begins_by, ends_by, noted, opening, run_slot_by, whole_by}
+use Rattle.world_view.specs.Harts.{Harts, Progress, IsOnOneHart, IsOutside, image_on, progress_of, slots_of, proceeds, settles, begins, runs, goes_on, next_by, all_cold, harts_by, after_by}
 use Rattle.world_view.specs.HartLaws.{AreHartsOf}
 use Rattle.world_view.specs.Laws.{SameWorld, WholeLaw}
 use Rattle.world_view.proofs.opening.Separate.{Separated, separated}
@@ -442,6 +442,34 @@ module _ (off : Option Guard) (i : Image) (r : Runnable i) (one : IsOnOneHart i)
   follows : (order : List ℕ) → AreHartsOf i order → Follows (harts_by off i order)
   unfolding harts_by after_by
   follows order below = after_so order (harts_by off i []) below first_so
+
+  -- its next switch, too
+  settles_world : (b : Bool) (s : Harts) (w : World) (k : ℕ)
+      → (if b then proceeds 0 s w k true else proceeds 0 s w (suc k) false).world ≡ w
+  unfolding proceeds
+  settles_world true s w k = refl
+  settles_world false s w k = refl
+
+  switches : (s : Harts) → (progress_of 0 s).inside ≡ false → Follows s
+      → SameWorld (before (slots_of 0 s)) (next_by off i 0 s).world
+  unfolding Follows FollowsIf next_by settles
+  switches s outside h =
+      let k = slots_of 0 s in
+      let w = begun k s.world in
+      let apart = subst (λ (b : Bool). FollowsIf b k s.world) outside h in
+      let now = switch_by g i k s.world in
+      subst (λ (v : World). SameWorld (before k) v)
+      (sym (ap (λ (b : Bool). (if b then goes_on off i 0 s else begins off i 0 s).world) outside
+      ∙ ap (λ (t : Harts). t.world) (begins_one s)
+      ∙ settles_world (ltb (clock_of 0 w) (end_of k w)) s w k))
+      (same_trans (before k) now w (switch_same k s.world apart) (ending_same g.pad k now))
+
+pub switch_law : (off : Option Guard) (i : Image) (order : List ℕ) (r : Runnable i) → IsOnOneHart i → AreHartsOf i order →
+    let s = harts_by off i order in
+    IsOutside 0 s
+    → SameWorld (switch_by (guards_of off i) i (slots_of 0 s) (whole_by (guards_of off i) i (slots_of 0 s)))
+    (next_by off i 0 s).world
+switch_law off i order r one below outside = switches off i r one (harts_by off i order) outside (follows off i r one order below)
 
 pub whole_law : WholeLaw
 unfolding Follows FollowsIf

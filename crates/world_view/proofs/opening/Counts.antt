@@ -1,5 +1,5 @@
 -- How many regions and pages there are below one.
-use Rattle.std.proofs.Common.{◌≡◌, ℕ, zero, suc, ◌+◌, ◌-◌, ◌*◌, ◌/◌, ◌<◌, ◌≤◌, min, Bool, true, false, cond, ◌||◌, List, [], ◌∷◌, length, get_or, Some, inl, inr, refl, sym, subst, arith, true≢false}
+use Rattle.std.proofs.Common.{◌≡◌, ℕ, zero, suc, ◌+◌, ◌-◌, ◌*◌, ◌/◌, ◌<◌, ◌≤◌, Bool, true, false, cond, ◌||◌, List, [], ◌∷◌, get_or, Some, inl, inr, refl, sym, subst, arith, true≢false}
 use Rattle.std.proofs.lemmas.Bool.{cases_Bool, cases_lt, cases_eq, leb-true, ltb-true, lt-ltb, and_parts}
 use Rattle.std.proofs.Math.Bool.{or-true}
 use Rattle.std.proofs.lemmas.Option.{none-some, same_Some}
@@ -66,47 +66,6 @@ region_once ss r q some other e =
 unfoldable covers : Segment → ℕ → ℕ
 covers s zero = 0
 covers s (suc r) = covers s r + cond (meets s r) 1 0
-
-covers_few : (s : Segment) (r : ℕ) → s.pages ≤ 64 → covers s r ≤ min 2 (r - s.page / 1024)
-unfolding covers
-covers_few s zero few = omega arith
-covers_few s (suc r) few =
-    let before = covers_few s r few in
-    elim (cases_Bool (meets s r)) [
-      | inl some ↦
-          let parts = and_parts _ _ some in
-          let low = ltb-true s.page (1024 * r + 1024) parts.0 in
-          let high = ltb-true (1024 * r) (s.page + s.pages) parts.1 in
-          rw some (omega (arith, before, low, high, few))
-      | inr none ↦ rw none (omega (arith, before))
-    ]
-
-or_few : (a b : Bool) (m n : ℕ) → m ≤ n → m + cond (a || b) 1 0 ≤ n + (cond a 1 0 + cond b 1 0)
-or_few true b m n h = omega arith
-or_few false true m n h = omega arith
-or_few false false m n h = omega arith
-
-regions_split : (s : Segment) (ss : List Segment) (r : ℕ)
-    → regions_below (s ∷ ss) r ≤ covers s r + regions_below ss r
-unfolding regions_below has_region covers
-regions_split s ss zero = omega arith
-regions_split s ss (suc r) =
-    let rest = or_few (meets s r) (has_region ss r) _ _ (regions_split s ss r) in
-    omega (arith, rest)
-
-regions_none : (r : ℕ) → regions_below [] r ≡ 0
-unfolding regions_below has_region
-regions_none zero = refl
-regions_none (suc r) = let rest = regions_none r in omega (arith, rest)
-
-pub regions_few : (ss : List Segment) (r : ℕ) → ((k : ℕ) → IsSegment (get_or ss k no_segment))
-    → regions_below ss r ≤ 2 * length ss
-regions_few [] r each = let none = regions_none r in omega (arith, none)
-regions_few (s ∷ ss) r each =
-    let split = regions_split s ss r in
-    let here = covers_few s r (each 0).few in
-    let rest = regions_few ss r (λ k. each (suc k)) in
-    omega (arith, split, here, rest)
 
 -- ---- pages
 

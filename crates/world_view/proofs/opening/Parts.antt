@@ -5,7 +5,7 @@ use Rattle.std.proofs.lemmas.List.{take-append-drop, drop_more}
 use Rattle.tp_base.specs.Table.{put, empty, at}
 use Rattle.phys_mem.specs.Mem.{Frame, frame_at, word, word-empty}
 use Rattle.frame_colours.specs.Colours as colours
-use Rattle.frame_colours.specs.Colours.{has, list_at}
+use Rattle.frame_colours.specs.Colours.{has}
 use Rattle.hardware_check.specs.Hardware.{colours_of}
 use Rattle.image_check.specs.Own.{Own}
 use Rattle.image_check.specs.Pages.{regions_in, pages_in, frames_in}

@@ -6,7 +6,7 @@ use Rattle.std.proofs.lemmas.List.FromFn.{length-range_with_len}
 use Rattle.std.proofs.lemmas.List.Filters.{length-filter_both}
 use Rattle.frame_colours.specs.Colours as colours
 use Rattle.frame_colours.specs.Colours.{IsOwn, has_colour}
-use Rattle.frame_colours.proofs.Pools.{frame_at_own, frame_at_increasing, own_is_frame_at}
+use Rattle.frame_colours.proofs.Pools.{frame_at_own, frame_at_increasing}
 use Rattle.hardware_check.specs.Hardware.{Hardware}
 use Rattle.image_check.specs.Own.{Own}
 use Rattle.image_check.specs.Pages.{share_of}
@@ -58,7 +58,3 @@ module _ (p : Hardware) (o : Own) where
   -- a frame of the domain's own is in memory
   pub own_inside : (f : ℕ) → IsOwnFrame p o f → f < p.frames
   own_inside f is = (own_in_share f is).below
-
-  -- and stands in its pool
-  pub pool_all : (f : ℕ) → IsOwnFrame p o f → (n : ℕ) × (n < length (pool p o)) × (pool_frame p o n ≡ f)
-  pool_all f is = own_is_frame_at (share_of p o) f (own_in_share f is)

@@ -7,7 +7,7 @@ use Rattle.kernel_clone.specs.Footprints.{IsLayout}
 use Rattle.mem_system.specs.Operations.{shared_region}
 use Rattle.call_table.specs.Domain.{is_running}
 use Rattle.image_check.specs.Image.{Image, own_of}
-use Rattle.std.specs.Prelude.{length, if◌then◌else◌}
+use Rattle.std.specs.Prelude.{if◌then◌else◌}
 use Rattle.world_view.specs.Cost.{hierarchy, region}
 use Rattle.world_view.specs.Machine.{Guards, guarded, guards_of, setting_by, World, clock_of, caches_of, dom_of, part_of, with_part, with_hart, delivered, Owned, first_due, delivered_or_step, step_among, steps_among, open_slot}
 use Rattle.world_view.specs.Relations.{IsDomain}

@@ -8,15 +8,15 @@ use Rattle.image_check.specs.Own.{Own}
 use Rattle.world_view.specs.Frames.{own_frame}
 use Rattle.world_view.specs.Kernel.{layout}
 use Rattle.world_view.specs.Cost.{region, own_colour}
-use Rattle.world_view.specs.Machine.{setting, Local, step, steps, enter_part}
+use Rattle.world_view.specs.Machine.{setting, Local, step, enter_part}
 use Rattle.world_view.specs.EventLaws.{step_touches}
 use Rattle.world_view.specs.Laws.{PartiesSwapLaw, PartyFramesLaw, OthersStepLaw, OthersLeaveLaw, OthersEnterLaw, PrefetchLaw, FlushLaw, SettledLaw}
-use Rattle.world_view.specs.Relations.{SameFrames, SameSets, SamePart, OwnDirty, AreParties, HasFacts}
+use Rattle.world_view.specs.Relations.{SameFrames, SameSets, SamePart, AreParties}
 use Rattle.world_view.proofs.opening.Separate.{frames_apart}
 use Rattle.world_view.proofs.touches.Hierarchies.{some_data}
 use Rattle.world_view.proofs.touches.KernelTouches.{leave_may, enter_may}
 use Rattle.world_view.proofs.touches.CostLaws.{others_touches, prefetch_others, flush_others, settled_own}
-use Rattle.world_view.proofs.steps.StepLaws.{step_keeps, step_may, step_caches, step_dirties, steps_hold}
+use Rattle.world_view.proofs.steps.StepLaws.{step_keeps, step_may, step_caches}
 
 -- a colour of the other's is none of its own
 unnamed : (b : Bool) {c : Bool} → (IsTrue b → c ≡ false) → IsTrue c → b ≡ false
@@ -55,16 +55,6 @@ others_step p o other end s parties facts dirty =
 pub part_trans : (p : Hardware) (o : Own) (s t a : Local) → SamePart p o s t → SamePart p o t a
     → SamePart p o s a
 part_trans p o s t a h k = record { frames = λ f own. h.frames f own ∙ k.frames f own; sets = λ m own. h.sets m own ∙ k.sets m own }
-
--- so many steps leave it, too
-pub others_steps : (p : Hardware) (o other : Own) (end n : ℕ) (s : Local) → AreParties p o other
-    → HasFacts p other s.dom s.storage → OwnDirty p other s.caches → SamePart p o (steps (setting p other false) end n s) s
-others_steps p o other end n s parties facts dirty =
-    (steps_hold p other parties.others_kernel (λ t. OwnDirty p other t.caches × SamePart p o t s) end
-    (λ t holds h. (
-      step_dirties p other parties.others_kernel false end t holds h.0,
-      part_trans p o _ t s (others_step p o other end t parties holds h.0) h.1,
-    )) n s facts (dirty, record { frames = λ f own. refl; sets = λ m own. refl })).1
 
 -- ---- phases of a switch
 

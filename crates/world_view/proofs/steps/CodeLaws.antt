@@ -1,10 +1,10 @@
 -- What code that runs the machine wants to know of its definitions.
-use Rattle.std.proofs.Common.{◌≡◌, ◌≢◌, ℕ, suc, ◌+◌, ◌-◌, ◌*◌, ◌/◌, ◌%◌, ◌^◌, ◌≤◌, max, true, false, cond, eqb, List, [], ◌∷◌, ◌++◌, length, Some, None, Result, inl, inr, refl, sym, ap, ◌∙◌, arith, add-zero, eq-eqb, ne_eqb}
+use Rattle.std.proofs.Common.{◌≡◌, ◌≢◌, ℕ, ◌+◌, ◌-◌, ◌*◌, ◌/◌, ◌%◌, ◌^◌, ◌≤◌, max, true, false, cond, eqb, List, [], ◌∷◌, ◌++◌, length, Some, None, Result, inl, inr, refl, sym, ap, ◌∙◌, arith, add-zero, eq-eqb, ne_eqb}
 use Rattle.std.specs.List.{sum_by}
 use Rattle.std.proofs.lemmas.Bool.{cases_Bool, cases_lt}
 use Rattle.std.proofs.lemmas.List.{get_or_past}
 use Rattle.std.proofs.lemmas.List.Sums.{sum_by-append}
-use Rattle.tp_base.specs.Table.{put, at, at-put_same, at-put_other}
+use Rattle.tp_base.specs.Table.{at}
 use Rattle.tp_base.specs.Act.{◌>>=◌, ◌>>◌, go_on, give}
 use Rattle.rv_decode.specs.declared.Instr.{Instr}
 use Rattle.rv_decode.specs.declared.Instr.TheVariants as instr
@@ -20,17 +20,17 @@ use Rattle.sv32_walk.specs.declared.access.WalkFault.{WalkFault}
 use Rattle.sv32_walk.specs.Walk.{walk}
 use Rattle.hardware_check.specs.Hardware.{Hardware}
 use Rattle.image_check.specs.Image.{Image, own_of}
-use Rattle.sched_table.specs.Schedule.{entry_of_slot, switch_entry, start, slot_end, last_end, outgoing}
+use Rattle.sched_table.specs.Schedule.{entry_of_slot, slot_end, outgoing}
 use Rattle.world_view.specs.Opening.{word_of, page_words}
 use Rattle.irq_partition.specs.Interrupts.{next_cycle, due}
 use Rattle.thread_set.specs.Threads.{is_ready}
 use Rattle.call_table.specs.Domain.{Dom, is_running}
 use Rattle.call_table.specs.Claims.{Estate}
 use Rattle.kernel_clone.specs.Footprints.{Layout}
-use Rattle.world_view.specs.Kernel.{opening_dom, estate, no_dom}
+use Rattle.world_view.specs.Kernel.{opening_dom, estate}
 use Rattle.mem_system.specs.Cost.{Touched}
 use Rattle.world_view.specs.Event.{Storage, Act, frame_or_stop, translate, unless, store, settle, computed, loaded, noted, guessed, execute, timed, perform, instruction, interrupts_of, idle_until, event}
-use Rattle.world_view.specs.Machine.{with_hart, caches_of, clock_of, Setting, setting, Local, paid, delivered, happened, step, stretch, World, dom_of, part_of, with_part, switch_work, switch, run_slot, whole, guarded, own_slot, run_slot_by, switch_by, switch_on, whole_by, with_end}
+use Rattle.world_view.specs.Machine.{caches_of, Setting, setting, Local, paid, delivered, happened, step, stretch, World, dom_of, part_of, switch_work, switch, whole, whole_by}
 use Rattle.world_view.specs.Relations.{IsDomain}
 use Rattle.world_view.proofs.opening.Separate.{Separated}
 use Rattle.world_view.proofs.opening.OpeningLaws.{at-tabled, at-tabled_past, opening_dom_is}
@@ -65,27 +65,11 @@ module _ {A B : Type 0} (x : Act A) (y : A → Act B) (s : Storage) where
   unfolding ◌>>=◌ go_on
   bind_value a e = rw e
 
-  pub bind_state : (a : A) → (x s).value ≡ inr a → ((x >>= y) s).state ≡ (y a (x s).state).state
-  unfolding ◌>>=◌ go_on
-  bind_state a e = rw e
-
-  pub stop_value : (d : Dom) → (x s).value ≡ inl d → ((x >>= y) s).value ≡ inl d
-  unfolding ◌>>=◌ go_on
-  stop_value d e = rw e
-
-  pub stop_state : (d : Dom) → (x s).value ≡ inl d → ((x >>= y) s).state ≡ (x s).state
-  unfolding ◌>>=◌ go_on
-  stop_state d e = rw e
-
 module _ (p : Hardware) (root : ℕ) (d : Dom) (a : Access) (va : ℕ) (s : Storage) where
   pub translate_value : (r : Result ℕ WalkFault) → (walk s.mem p.frames root va a).result ≡ r
       → (translate p root d a va s).value ≡ frame_or_stop d a va r
   unfolding translate
   translate_value r e = ap (frame_or_stop d a va) e
-
-  pub translate_state : (translate p root d a va s).state ≡ s
-  unfolding translate
-  translate_state = refl
 
 pub noted-other : (i : Instr) (value : ℕ) (d : Dom) → ((c : Counter) (rd : ℕ) → i ≢ instr.ReadCounter c rd)
     → noted i value d ≡ d
@@ -244,27 +228,6 @@ module _ (i : Image) (k : ℕ) (w : World) where
   abbrev pub work : Touched
   work = switch_work i (outgoing i.all.schedule k) (entry_of_slot i.all.schedule k).domain (caches_of 0 w)
 
-  pub switch-doms : (switch i k w).doms ≡ w.doms
-  unfolding switch_by switch_on guarded with_hart at put
-  switch-doms = refl
-
-  pub switch-storage : (switch i k w).storage ≡ w.storage
-  unfolding switch_by switch_on guarded with_hart at put
-  switch-storage = refl
-
-  pub switch-caches : caches_of 0 (switch i k w) ≡ work.caches
-  unfolding switch_by switch_on guarded with_hart at put
-  switch-caches = refl
-
-  pub switch-clock : clock_of 0 (switch i k w) ≡ max (clock_of 0 w + work.cost) (start i.all.schedule k)
-  unfolding switch_by switch_on guarded with_hart at put
-  switch-clock = refl
-
-  pub switch-used : (switch i k w).used
-      ≡ w.used ++ (switch_entry i.all.schedule k, (clock_of 0 w + work.cost) - last_end i.all.schedule k) ∷ []
-  unfolding switch_by switch_on guarded with_hart at put
-  switch-used = refl
-
   -- the domain of slot k as it begins, and as it ends
   abbrev pub slot_begun : Local
   slot_begun = part_of 0 (entry_of_slot i.all.schedule k).domain (switch i k w)
@@ -273,38 +236,6 @@ module _ (i : Image) (k : ℕ) (w : World) where
   slot_over =
       stretch (setting i.all.hardware (own_of i (entry_of_slot i.all.schedule k).domain) false)
       (slot_end i.all.schedule k) slot_begun
-
-  pub run_slot-dom_same : dom_of (run_slot i k w) (entry_of_slot i.all.schedule k).domain ≡ slot_over.dom
-  unfolding run_slot_by own_slot with_end guarded with_part with_hart at put
-  run_slot-dom_same = at-put_same no_dom (switch i k w).doms (entry_of_slot i.all.schedule k).domain slot_over.dom
-
-  pub run_slot-dom_other : (d : ℕ) → d ≢ (entry_of_slot i.all.schedule k).domain
-      → dom_of (run_slot i k w) d ≡ dom_of w d
-  unfolding run_slot_by own_slot with_end guarded with_part with_hart at put
-  run_slot-dom_other d other =
-      at-put_other no_dom (switch i k w).doms (entry_of_slot i.all.schedule k).domain d slot_over.dom other
-      ∙ ap (λ m. at no_dom m d) switch-doms
-
-  pub run_slot-storage : (run_slot i k w).storage ≡ slot_over.storage
-  unfolding run_slot_by own_slot with_end guarded with_part with_hart at put
-  run_slot-storage = refl
-
-  pub run_slot-clock : clock_of 0 (run_slot i k w) ≡ slot_over.clock
-  unfolding run_slot_by own_slot with_end guarded with_part with_hart at put
-  run_slot-clock = refl
-
-  pub run_slot-caches : caches_of 0 (run_slot i k w) ≡ slot_over.caches
-  unfolding run_slot_by own_slot with_end guarded with_part with_hart at put
-  run_slot-caches = refl
-
-  pub run_slot-used : (run_slot i k w).used
-      ≡ w.used ++ (switch_entry i.all.schedule k, (clock_of 0 w + work.cost) - last_end i.all.schedule k) ∷ []
-  unfolding run_slot_by own_slot with_end guarded with_part with_hart at put
-  run_slot-used = switch-used
-
-pub whole-suc : (i : Image) (k : ℕ) → whole i (suc k) ≡ run_slot i k (whole i k)
-unfolding whole_by
-whole-suc i k = refl
 
 -- ---- the opening
 

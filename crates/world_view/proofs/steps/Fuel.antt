@@ -52,16 +52,6 @@ module _ (w : Setting) (end : ℕ) (P : Local → Local → Type 0)
   first_if true s t = next s (ltb-true s.clock end t)
   first_if false s t = past s (ltb-false s.clock end t)
 
-  later_if : (b : Bool) (x y s : Local) → ltb s.clock end ≡ b → P x y
-      → P (elim b [ true ↦ x | false ↦ s ]) (elim b [ true ↦ y | false ↦ s ])
-  later_if true x y s t h = h
-  later_if false x y s t h = past s (ltb-false s.clock end t)
-
-  pub one_more_by : (n : ℕ) (s : Local) → P (steps w end n s) (steps w end (suc n) s)
-  unfolding steps
-  one_more_by zero s = first_if (ltb s.clock end) s refl
-  one_more_by (suc n) s = later_if (ltb s.clock end) _ _ s refl (one_more_by n (step w end s))
-
 -- ---- where the clock goes
 
 -- a jump goes past the clock

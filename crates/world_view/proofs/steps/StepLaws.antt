@@ -1,5 +1,5 @@
 -- Steps of the domain from states that are beside give states that are beside, at equal cost.
-use Rattle.std.proofs.Common.{◌≡◌, ℕ, Bool, true, false, ltb, zero, suc, ◌+◌, ◌-◌, ◌⊎◌, inl, inr, length, Option, Some, None, List, ap, sym, refl, subst, subst₂}
+use Rattle.std.proofs.Common.{◌≡◌, ℕ, Bool, true, false, ◌+◌, ◌-◌, ◌⊎◌, inl, inr, length, Option, Some, None, List, ap, sym, refl, subst, subst₂}
 use Rattle.tp_base.specs.Act.{either}
 use Rattle.phys_mem.specs.Mem.{frame_at}
 use Rattle.hardware_check.specs.Hardware.{Hardware}
@@ -15,20 +15,13 @@ use Rattle.mem_system.specs.Sharing.{BesideTouched}
 use Rattle.world_view.specs.Cost.{hierarchy, region, own_colour}
 use Rattle.world_view.specs.Event.{Storage, instruction, delivery_touches, Event, event}
 use Rattle.world_view.specs.Event.Event.{Jump, Deliver, Run}
-use Rattle.world_view.specs.Machine.{setting, Local, paid, delivered, happened, step, steps, stretch}
+use Rattle.world_view.specs.Machine.{setting, Local, paid, delivered, happened, step, steps}
 use Rattle.world_view.specs.Relations.{IsKernel, HasFacts, MayAll, Resident, OwnDirty, BesideStorage, BesideCaches, Beside}
 use Rattle.world_view.specs.EventLaws.{event_touches, step_touches, StepTouchesLaw}
 use Rattle.world_view.proofs.steps.Fuel.{steps_by}
 use Rattle.world_view.proofs.touches.CostLaws.{own_touches, own_resident, own_dirties}
 use Rattle.world_view.proofs.actions.ActLaws.{Known, Alike, instruction_near}
 use Rattle.world_view.proofs.touches.KernelTouches.{delivery_may}
-
-both_if : (R : Local → Local → Type 0) (x y : Bool) → x ≡ y → (s t a b : Local) → R s a → R t b
-    → R (elim x [ true ↦ s | false ↦ t ]) (elim y [ true ↦ a | false ↦ b ])
-both_if R true true e s t a b h k = h
-both_if R true false e s t a b h k = cc
-both_if R false true e s t a b h k = cc
-both_if R false false e s t a b h k = k
 
 -- the facts hold of the domain that an action gives, whichever way it ends
 either_known : (p : Hardware) (o : Own) (v : Dom ⊎ Dom) (s : Storage)
@@ -104,20 +97,6 @@ module _ (p : Hardware) (o : Own) (end : ℕ) (first : Local) where
       (record { dom = d; storage = a.storage; caches = a.caches; clock = t }) (event o t end d))) b.dom
       b.clock
       (happened_near s.dom s.clock s.storage a.storage s.caches a.caches (event o s.clock end s.dom) b.kernel b.facts b.storage b.caches)
-
-  pub steps_near : (n : ℕ) (s a : Local) → Beside p o first s a
-      → Beside p o first (steps (setting p o false) end n s) (steps (setting p o true) end n a)
-  unfolding steps
-  steps_near zero s a b = b
-  steps_near (suc n) s a b =
-      both_if (Beside p o first) _ _ (ap (λ x. ltb x end) b.clock) _ _ _ _ (steps_near n _ _ (step_near s a b)) b
-
-  pub stretch_near : (s a : Local) → Beside p o first s a
-      → Beside p o first (stretch (setting p o false) end s) (stretch (setting p o true) end a)
-  stretch_near s a b =
-      subst (λ (t : ℕ).
-      Beside p o first (stretch (setting p o false) end s) (steps (setting p o true) end (end - t) a))
-      b.clock (steps_near (end - s.clock) s a b)
 
 -- ---- what a step does to the caches
 
@@ -206,18 +185,3 @@ module _ (p : Hardware) (o : Own) (kernel : IsKernel p o) where
   record Holds (Q : Local → Type 0) (s : Local) : Type 0 where
     keeps : Keeps p o s.storage s
     so : Q s
-
-  pub steps_hold : (Q : Local → Type 0) (end : ℕ)
-      → ((s : Local) → HasFacts p o s.dom s.storage → Q s → Q (step (setting p o false) end s))
-      → (n : ℕ) (s : Local) → HasFacts p o s.dom s.storage → Q s → Q (steps (setting p o false) end n s)
-  steps_hold Q end next n s facts so =
-      (steps_by (setting p o false) end (Holds Q)
-      (λ t below h. record {
-        keeps = record { facts = (step_keeps false end t.storage t h.keeps).facts; outside = λ f out. refl };
-        so = next t h.keeps.facts h.so;
-      }) n s (record { keeps = record { facts = facts; outside = λ f out. refl }; so = so })).so
-
-  pub steps_resident : (end n : ℕ) (s : Local) → HasFacts p o s.dom s.storage → Resident p s.caches
-      → Resident p (steps (setting p o false) end n s).caches
-  steps_resident end n s facts resident =
-      steps_hold (λ t. Resident p t.caches) end (λ t holds there. step_resident end t holds there) n s facts resident

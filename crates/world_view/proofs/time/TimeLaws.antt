@@ -1,12 +1,11 @@
 -- When slots end and begin.
-use Rattle.std.proofs.Common.{◌≡◌, ℕ, Bool, true, false, cond, eqb, eqb-true, ltb, max, subst, sym, ap, ◌∙◌, zero, suc, ◌+◌, ◌-◌, ◌<◌, ◌≤◌, List, [], ◌∷◌, ◌++◌, length, refl, arith, ltb-true}
-use Rattle.std.proofs.lemmas.Bool.Decides.{nat_tests}
+use Rattle.std.proofs.Common.{◌≡◌, ℕ, Bool, true, false, cond, eqb, eqb-true, max, subst, sym, ap, ◌∙◌, ◌+◌, ◌-◌, ◌<◌, ◌≤◌, List, [], ◌∷◌, ◌++◌, length, refl, arith}
 use Rattle.std.proofs.lemmas.List.{length-replicate}
 use Rattle.std.specs.Prelude.{Some, None, ◌≢◌}
 use Rattle.rv_decode.specs.declared.Instr.TheVariants.{Ecall}
 use Rattle.pad_bound.specs.Bound.{worst_instruction}
 use Rattle.pad_bound.specs.Worst.{AreWithin}
-use Rattle.tp_base.specs.Table.{at, put, at-empty}
+use Rattle.tp_base.specs.Table.{at-empty}
 use Rattle.set_cache.specs.Cache.{CacheSet, fresh_set}
 use Rattle.mem_system.specs.Cost.{Touched, cold, fresh_core}
 use Rattle.mem_system.specs.Worst.{HasWays}
@@ -19,20 +18,20 @@ use Rattle.sched_table.specs.Schedule.{entry_in}
 use Rattle.image_check.specs.Own.{Own}
 use Rattle.image_check.specs.Image.{Image, own_of}
 use Rattle.sched_table.proofs.Starts.{pad_law}
-use Rattle.sched_table.specs.Schedule.{entry_of_slot, pad_of, start, slot_end, last_end, outgoing}
+use Rattle.sched_table.specs.Schedule.{entry_of_slot, pad_of, start, last_end, outgoing}
 use Rattle.world_view.specs.Kernel.{estate, layout}
 use Rattle.world_view.specs.Cost.{hierarchy, region}
 use Rattle.world_view.specs.Event.{Event, event, instruction, delivery_touches}
 use Rattle.world_view.specs.Event.Event.{Jump, Deliver, Run}
-use Rattle.world_view.specs.Machine.{with_hart, caches_of, clock_of, setting, Local, World, paid, delivered, happened, step, steps, stretch, clone_of, switch_work, with_part, part_of, switch, opening, whole, guarded, own_slot, run_slot_by, switch_by, switch_on, whole_by, with_end}
+use Rattle.world_view.specs.Machine.{caches_of, clock_of, setting, Local, World, paid, delivered, happened, step, steps, stretch, clone_of, switch_work, guarded, switch_on}
 use Rattle.world_view.specs.Used.{largest_of}
 use Rattle.world_view.specs.Relations.{own_shape, largest_step, bound, ended_own, InTime, AllWithinPads}
-use Rattle.world_view.proofs.opening.Separate.{Separated, ended_listed}
+use Rattle.world_view.proofs.opening.Separate.{Separated}
 use Rattle.world_view.specs.EventLaws.{EndsBy, next_instruction, StepCostLaw, PlainCostLaw}
-use Rattle.world_view.proofs.steps.Fuel.{IsTimed, StaysWithin, event_within, step_later, steps_by}
+use Rattle.world_view.proofs.steps.Fuel.{IsTimed, StaysWithin, event_within, steps_by}
 use Rattle.world_view.proofs.time.ActCosts.{instruction_within, delivery_within, plain_within}
 use Rattle.world_view.proofs.runs.SwitchParts.{all_touches, switch_is, caches-with, clock-with}
-use Rattle.world_view.proofs.facts.KernelSets.{leave_any, who_leaves, any_sharing, between_clean, between_dirty}
+use Rattle.world_view.proofs.facts.KernelSets.{leave_any, who_leaves, any_sharing}
 
 -- ---- a step, from any caches
 
@@ -109,28 +108,6 @@ module _ (p : Hardware) (timed : IsTimed p) (o : Own) (pinned : Bool) (end : ℕ
   pub steps_soon : AreWithin o.makes o.calls → (n : ℕ) (s : Local) → IsSoon s → IsSoon (steps (setting p o pinned) end n s)
   steps_soon listed n s soon = steps_by (setting p o pinned) end IsSoon (step_soon listed) n s soon
 
-  IsOver : Local → Type 0
-  IsOver s = end ≤ s.clock
-
-  over_if : (b : Bool) (n : ℕ) (s : Local) → ltb s.clock end ≡ b → end - s.clock ≤ suc n
-      → ((t : Local) → end - t.clock ≤ n → IsOver (steps (setting p o pinned) end n t))
-      → IsOver (elim b [ true ↦ steps (setting p o pinned) end n (step (setting p o pinned) end s) | false ↦ s ])
-  unfolding IsOver
-  over_if true n s t few next =
-      let below : s.clock < end = ltb-true s.clock end t in
-      let later = step_later (setting p o pinned) timed end s below in
-      next (step (setting p o pinned) end s) (omega (arith, few, later))
-  over_if false n s t few next = let past : end ≤ s.clock = grind (arith, nat_tests) in past
-
-  over : (n : ℕ) (s : Local) → end - s.clock ≤ n → IsOver (steps (setting p o pinned) end n s)
-  unfolding steps IsOver
-  over zero s few = omega (arith, few)
-  over (suc n) s few = over_if (ltb s.clock end) n s refl few (λ t. over n t)
-
-  pub stretch_over : (s : Local) → end ≤ (stretch (setting p o pinned) end s).clock
-  unfolding IsOver
-  stretch_over s = over (end - s.clock) s (omega arith)
-
   pub stretch_soon : AreWithin o.makes o.calls → (s : Local) → IsSoon s → IsSoon (stretch (setting p o pinned) end s)
   stretch_soon listed s soon = steps_soon listed (end - s.clock) s soon
 
@@ -182,69 +159,12 @@ switch_on_start i r h k w padded time =
     let pad = pad_law i.all.schedule k in
     clock-with h w _ _ ∙ omega (arith, used, pad)
 
--- ---- all slots
-
-module _ (i : Image) (r : Separated i) where
-  -- a slot begins before its end
-  begins_soon : (k : ℕ) → InTime i 0 k (whole i k)
-      → let d = (entry_of_slot i.all.schedule k).domain in
-      IsSoon i.all.hardware r.timed (own_of i d) false (slot_end i.all.schedule k) (part_of 0 d (switch i k (whole i k)))
-  unfolding switch_by
-  begins_soon k time =
-      let p = i.all.hardware in
-      let d = (entry_of_slot i.all.schedule k).domain in
-      let begun = part_of 0 d (switch i k (whole i k)) in
-      let at = switch_on_start i r 0 k (whole i k) (r.padded k) time in
-      let within = instruction_within p (own_of i d) (r.sound d).listed 0 begun.dom begun.storage in
-      let base = r.timed.base in
-      record { clock = omega (arith, at, within, base); ways = switch_ways i 0 k (whole i k) time.ways }
-
-  slot_in_time : (k : ℕ) → InTime i 0 k (whole i k) → InTime i 0 (suc k) (whole i (suc k))
-  unfolding whole_by run_slot_by own_slot with_end guarded with_part with_hart at put
-  slot_in_time k time =
-      let p = i.all.hardware in
-      let end = slot_end i.all.schedule k in
-      let d = (entry_of_slot i.all.schedule k).domain in
-      let begun = part_of 0 d (switch i k (whole i k)) in
-      let ends = stretch_soon p r.timed (own_of i d) false end (r.sound d).listed begun (begins_soon k time) in
-      record {
-        over = stretch_over p r.timed (own_of i d) false end begun;
-        soon = ends.clock;
-        ways = ends.ways;
-        dirty = between_dirty i r (suc k);
-        clean = between_clean i r (suc k);
-      }
-
-  pub in_time : (k : ℕ) → InTime i 0 k (whole i k)
-  unfolding whole_by opening with_hart at put
-  in_time zero =
-      let within = instruction_within i.all.hardware (ended_own i 0) (ended_listed i r 0) 0 (part_of 0 0 (opening i)).dom (opening i).storage in
-      let base = r.timed.base in
-      record {
-        over = omega arith;
-        soon = omega (arith, base, within);
-        ways = cold_ways i.all.hardware;
-        dirty = between_dirty i r 0;
-        clean = between_clean i r 0;
-      }
-  in_time (suc k) = slot_in_time k (in_time k)
-
-  pub on_time : (k : ℕ) → clock_of 0 (switch i k (whole i k)) ≡ start i.all.schedule k
-  unfolding switch_by
-  on_time k = switch_on_start i r 0 k (whole i k) (r.padded k) (in_time k)
+-- ---- what entries' switches take
 
 pub within_append : (es : List Entry) (us vs : List (ℕ × ℕ)) → AllWithinPads es us → AllWithinPads es vs
     → AllWithinPads es (us ++ vs)
 within_append es [] vs h k = k
 within_append es (u ∷ us) vs h k = (h.0, within_append es us vs h.1 k)
-
-pub used_within : (i : Image) (n : ℕ) → Separated i → AllWithinPads i.all.schedule (whole i n).used
-unfolding whole_by opening run_slot_by own_slot with_end guarded with_part switch_by switch_on with_hart at
-    put
-used_within i zero r = tt
-used_within i (suc k) r =
-    within_append i.all.schedule (whole i k).used _ (used_within i k r)
-    (used_in_pad i r 0 k (whole i k) (r.padded k) (in_time i r k), tt)
 
 largest_if : (e largest pad : ℕ) (u : ℕ × ℕ) (b : Bool) → eqb u.0 e ≡ b → largest ≤ pad
     → (u.0 ≡ e → u.1 ≤ pad) → cond b (max u.1 largest) largest ≤ pad

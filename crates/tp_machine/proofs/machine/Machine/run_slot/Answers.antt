@@ -2,12 +2,9 @@ use Rattle.std.proofs.Common.{◌≡◌, ◌+◌, ◌<◌, subst, sym}
 use Rattle.image_record.specs.Record.{Raw}
 use Rattle.sched_table.specs.Schedule.{start}
 use Rattle.world_view.specs.Machine.{clock_of, switch}
-use Rattle.world_view.proofs.opening.Separate.{separated}
-use Rattle.world_view.proofs.time.TimeLaws.{on_time}
-use Rattle.hart_set.specs.Models as set
 use Rattle.tp_machine.specs.Models.{Ran, image_of, world_of}
 use Rattle.tp_machine.specs.OneHart.{HasRun}
-use Rattle.tp_machine.proofs.OneHart.{first_there, few, one_more}
+use Rattle.tp_machine.proofs.OneHart.{first_there, few, one_more, on_time}
 use Rattle.tp_machine.proofs.machine.Machine.run_slot.Goals as goal
 
 pub run_slot-requires : goal.run_slot-requires
@@ -30,7 +27,6 @@ invariant_of-self c =
 pub returns-clause-begins : goal.returns-clause-begins
 returns-clause-begins c =
     let m = c.self.inside in
-    let i = set.image_of m.harts in
     subst
     (λ (r : Ran). clock_of 0 (switch (image_of r) r.slots (world_of r)) ≡ start (image_of r).all.schedule r.slots)
-    c.self.view_is (on_time i (separated i c.self.invariant.accepted) m.slots)
+    c.self.view_is (on_time m.harts m.slots c.self.invariant)
