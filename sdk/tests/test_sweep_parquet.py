@@ -1,4 +1,4 @@
-"""A sweep's rows in Parquet: by the library where it is there, and by a stand-in of it that keeps what it is given."""
+"""A sweep's rows in Parquet: by the library where it is there, and by a stand-in that keeps what it is given."""
 
 from __future__ import annotations
 
@@ -18,7 +18,7 @@ from test_waiting import script
 
 from tp_sdk.sweeping.rows import COLUMNS
 
-# What a sweep uses of pyarrow. As there, a column has values of one type or none, and a table is no value of it.
+# What a sweep uses of pyarrow. As there, a column has values of one type or none, and a table is no value.
 STAND_IN = """
 class ArrowInvalid(ValueError):
     pass

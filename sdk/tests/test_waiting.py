@@ -97,6 +97,18 @@ def test_an_interrupt_is_one_line(tool: str, tmp_path: Path) -> None:
     assert (it.returncode, written, said) == (130, "", f"{tool}: interrupted\n")
 
 
+@pytest.mark.parametrize("tool", READS)
+@pytest.mark.parametrize("module", ("tempfile", "argparse"))
+def test_an_interrupt_while_modules_are_loaded_is_one_line(tool: str, module: str, tmp_path: Path) -> None:
+    # (a module of Python's own, in whose place another interrupts the process)
+    interrupts = "import os, signal, time\nos.kill(os.getpid(), signal.SIGINT)\ntime.sleep(60)\n"
+    (tmp_path / f"{module}.py").write_text(interrupts)
+    environment = os.environ | {"PYTHONPATH": str(tmp_path)}
+    command = [sys.executable, SDK / tool, "--help"]
+    it = subprocess.run(command, env=environment, capture_output=True, text=True, check=False)
+    assert (it.returncode, it.stdout, it.stderr) == (130, "", f"{tool}: interrupted\n")
+
+
 @pytest.mark.parametrize("words", (("tp-run", SKELETON, "--slots", "1"), ("tp-image", SKELETON)))
 def test_an_interrupt_ends_the_program_too(words: tuple[str, ...], tmp_path: Path) -> None:
     told = tmp_path / "told"

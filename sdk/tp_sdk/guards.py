@@ -1,3 +1,3 @@
-"""The guards, which keep domains apart in time and one of which can be off, in the order of the library's numbers."""
+"""The guards, which keep domains apart in time: one of them can be off. Their order is that of libtp's numbers."""
 
 GUARDS = ("flush", "prefetch", "pad", "colour", "clone", "irq")

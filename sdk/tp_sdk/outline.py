@@ -1,4 +1,4 @@
-"""A report's parts as its lines tell them, and its switches: what has to be read of a report to tell reports apart."""
+"""A report's parts as its lines tell them, and its switches: all that a sweep reads of one."""
 
 from __future__ import annotations
 

@@ -3,19 +3,20 @@
 from __future__ import annotations
 
 import sys
-from argparse import ArgumentParser, Namespace, RawDescriptionHelpFormatter
-from collections.abc import Sequence
+from argparse import Namespace
+from collections.abc import Callable, Sequence
 from dataclasses import dataclass
 from math import log2
 from pathlib import Path
 from typing import TYPE_CHECKING
 
 from tp_sdk.bounds import EntryBound, bounds_of
-from tp_sdk.faults import EXIT_CODES, Fault, Missing, read_text
+from tp_sdk.commands.plot_words import parser_of_words
+from tp_sdk.faults import Fault, Missing, read_text
 from tp_sdk.images import read_image
 from tp_sdk.information import Measured, capacity, entropy, measure
 from tp_sdk.keys import VERSION, version_of
-from tp_sdk.measurements import MEASURES, by_pads, by_schedule, measurements_of, rows_of
+from tp_sdk.measurements import by_pads, by_schedule, measurements_of, rows_of
 from tp_sdk.memory import memory_of
 from tp_sdk.pictures import refuse_suffix
 from tp_sdk.plot_tables import write_channel, write_chart, write_memory, write_readings, write_timeline
@@ -25,132 +26,24 @@ from tp_sdk.refusals import Image
 from tp_sdk.replay import Replay, replay
 from tp_sdk.report import Report, Section, parse_report
 from tp_sdk.schedule import Entry, domain_names, entries_of, slots_of_each
-from tp_sdk.sweeping.charts import UNITS, chart_of
-from tp_sdk.words import slots_from
+from tp_sdk.sweeping.charts import chart_of
 
 # (each picture's library is loaded as the picture is drawn: words need none)
 if TYPE_CHECKING:
     from tp_sdk.plot_matrix import Side
     from tp_sdk.plot_readings import Panel
 
-_HELP = """Draws reports of `tp run`, `tp harts` and `tp ablate`, as NAME.svg or NAME.png:
-
-  tp-plot timeline mine.toml mine.report -o mine.svg
-      what was done in each slot, and what each switch used of its pad, as running the image
-      again tells; with no program, what the report alone does; of several harts a lane for each, by
-      its own clock; of an image of version 2 also each domain's bound on a switch, beside the one
-      with every call
-  tp-plot readings FOLDER --domain spy -o spy.svg
-      what one domain measured in each FOLDER/*.report: a spy beside many neighbours, say
-  tp-plot matrix FOLDER OTHER --domain spy -o spy.svg
-      what one domain measured beside each secret, in FOLDER/*.report and in OTHER/*.report of the
-      same names, on one scale, with the bits that it tells: all guards on, and one off, say; where
-      there are too many measurements for a picture, those that differ. Bits are told as the entropy,
-      where each neighbour or secret is equally likely, and the capacity, however likely each is
-  tp-plot memory mine.toml -o mine.svg
-      whose each frame and each set of the second level is, and what is shared
-  tp-plot sweep out.csv -o out.svg
-      what tp-sweep wrote: the capacity, or another column (--of), by one or two of the varied
-      things (--key), as lines or as a map, a side for each observer
-
-An image may be a description, too (tp-image). Pictures are 830 pixels wide, as a page of text is."""
-
 
 def main(words: list[str]) -> int:
     """Draws what is asked for."""
-    parser = ArgumentParser(
-        "tp-plot", description=_HELP, epilog=EXIT_CODES, formatter_class=RawDescriptionHelpFormatter
-    )
-    commands = parser.add_subparsers(required=True, metavar="timeline|readings|matrix|memory|sweep")
-    timeline = commands.add_parser("timeline", help="slots, what was done in them, pads and switches")
-    readings = commands.add_parser("readings", help="what a domain measured in many reports")
-    matrix = commands.add_parser("matrix", help="secrets by measurements, on one scale")
-    memory = commands.add_parser("memory", help="whose colours, frames, pages and sets are whose")
-    sweep = commands.add_parser("sweep", help="a column of what tp-sweep wrote, by what was varied")
-    _add_timeline(timeline)
-    _add_readings(readings)
-    _add_sweep(sweep)
-    matrix.add_argument("folders", type=Path, nargs="+", metavar="folder")
-    matrix.add_argument("--domain", required=True, help="its name")
-    matrix.set_defaults(draw=_matrix)
-    memory.add_argument("image", type=Path)
-    memory.set_defaults(draw=_memory)
-    measures = "; ".join(f"{name}: {what}" for name, what in MEASURES.items())
-    for command in (readings, matrix):
-        command.add_argument("--measure", choices=MEASURES, default="pairs", help=measures)
-    for command in (timeline, readings, matrix, memory, sweep):
-        command.add_argument(
-            "-o", dest="out", type=Path, required=True, metavar="PICTURE", help="NAME.svg or NAME.png"
-        )
-        command.add_argument("--dark", action="store_true", help="light on dark, for a dark page")
-        command.add_argument(
-            "--csv",
-            type=Path,
-            metavar="FILE",
-            help="writes the picture's numbers, too, as a table; -: as output",
-        )
-    asked = parser.parse_args(words)
+    asked = parser_of_words().parse_args(words)
     refuse_suffix(asked.out)
     if asked.dark:
         from tp_sdk.plots import use_dark_paper
 
         use_dark_paper()
-    asked.draw(asked)
+    _DRAWN[asked.picture](asked)
     return 0
-
-
-def _add_timeline(command: ArgumentParser) -> None:
-    command.add_argument("image", type=Path)
-    command.add_argument("reports", type=Path, nargs="+", metavar="report")
-    command.add_argument(
-        "--slots",
-        type=slots_from(1),
-        default=12,
-        help="how many slots of each hart are drawn, from the first on (%(default)s)",
-    )
-    command.set_defaults(draw=_timeline)
-
-
-def _add_readings(command: ArgumentParser) -> None:
-    command.add_argument("folder", type=Path)
-    command.add_argument("--domain", action="append", required=True, help="its name; may stand several times")
-    command.add_argument("--as", dest="form", choices=("matrix", "histogram"), default="matrix")
-    command.add_argument(
-        "--image",
-        type=Path,
-        help="an image with the reports' schedule: it tells exactly within which measurements a slot ended",
-    )
-    command.add_argument(
-        "--against",
-        metavar="REPORT",
-        help="the name of the report that others are compared with, else the first",
-    )
-    command.set_defaults(draw=_readings)
-
-
-def _add_sweep(command: ArgumentParser) -> None:
-    command.add_argument("table", type=Path, help="what tp-sweep wrote: NAME.csv, NAME.jsonl, NAME.parquet")
-    command.add_argument(
-        "--of", choices=UNITS, default="capacity", help="the column that is drawn (%(default)s)"
-    )
-    command.add_argument(
-        "--key",
-        action="append",
-        default=[],
-        metavar="NAME",
-        help="what is varied to the right; a second one: a line for each of its values, or upwards; else what "
-        "has several values",
-    )
-    command.add_argument(
-        "--where", action="append", default=[], metavar="NAME=VALUE", help="of the rows with this value alone"
-    )
-    command.add_argument(
-        "--observer", action="append", default=[], metavar="DOMAIN", help="this one's side; else each one's"
-    )
-    command.add_argument(
-        "--as", dest="form", choices=("lines", "map"), help="else a map of more than 8 lines"
-    )
-    command.set_defaults(draw=_sweep)
 
 
 def _sweep(asked: Namespace) -> None:
@@ -357,3 +250,12 @@ def verdict(domain: str, measured: Measured) -> str:
     else:
         alone = f"measurement {measured.best_reading} alone tells most, {measured.of_one_reading:.2f}"
     return f"{told} ({most}); {alone}"
+
+
+_DRAWN: dict[str, Callable[[Namespace], None]] = {
+    "timeline": _timeline,
+    "readings": _readings,
+    "matrix": _matrix,
+    "memory": _memory,
+    "sweep": _sweep,
+}
