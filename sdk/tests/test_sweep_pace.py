@@ -32,7 +32,7 @@ from tp_sdk.sweeping.running import Chunk, Ran
 
 # Of the program's own time, where the library answers in its place; and of what answers, where there is one of
 # them alone: to start the program takes the tools some time, and a call of the library takes less than a process.
-MOST, MOST_OF_ITSELF = 1.3, 1.5
+MOST, MOST_OF_ITSELF = 1.3, 2.0
 START, SLOW = 1.0, 0.1  # seconds
 SLOTS, RUNS, MACHINES, ROUNDS = 24, 8 * 7, 5, 3
 GUARDS_OFF = ("--off", "none,flush,prefetch,pad,colour,clone,irq")

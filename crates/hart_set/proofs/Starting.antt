@@ -17,6 +17,7 @@ use Rattle.domain_switch.specs.Switch.{IsSwitched, IsCloneOn, layout_if}
 use Rattle.sched_table.specs.declared.schedule.Entry.{Entry}
 use Rattle.sched_table.specs.declared.schedule.Turn.{Turn}
 use Rattle.sched_table.specs.Schedule.{harts_in, switch_entry, last_end, outgoing, on_hart, place_on}
+use Rattle.image_check.specs.Laws.{Runnable}
 use Rattle.image_check.specs.Image.{Image, own_of}
 use Rattle.kernel_call.specs.declared.domain.Domain.{Domain}
 use Rattle.world_view.specs.Kernel.{layout}

@@ -33,7 +33,7 @@ use Rattle.domain_check.specs.declared.capabilities.InitialCap.TheVariants.{Irq}
 use Rattle.image_check.specs.Own.{Segment}
 use Rattle.image_check.specs.Image.{Image, own_of}
 use Rattle.image_check.specs.Pages.{has_region, regions_below, pages_below, pages_in}
-use Rattle.sched_table.specs.Schedule.{start}
+use Rattle.sched_table.specs.Schedule.{start, entry_of_slot, slot_end}
 use Rattle.world_view.specs.Opening.{frame_words, put_word, tabled, root_entry, rights_in, leaf_with, leaf_entry, root_placed, table_placed, tables_placed, page_words, pages_placed, segments_placed, placed, all_placed}
 use Rattle.rv_decode.specs.declared.Counter.TheVariants.{Cycle, Time, Instret, CycleHigh, TimeHigh, InstretHigh}
 use Rattle.world_view.specs.Kernel.{first_cap, first_slots, opening_dom, page_numbers, kept_pages, first_regions, fixed_claims, estate, layout, no_dom}
@@ -45,10 +45,9 @@ use Rattle.mem_system.specs.Translation.{lines_of, look_of}
 use Rattle.mem_system.specs.Operations.{footprint, operation, leave, enter, shared_region, prefetch}
 use Rattle.world_view.specs.Cost.{hierarchy, region}
 use Rattle.world_view.specs.Event.{touch, frame_or_stop, translate, address_in, line_in, read, write, unless, load, store, computed, loaded, noted, guessed, settle, execute, timed, call_touches, make_call, perform, instruction, delivery_touches, interrupts_of, event}
-use Rattle.world_view.specs.Machine.{clock_of, with_hart, paid, delivered, happened, step, steps, enter_part, with_part, opening_doms, opening, whole, alone_opening, alone_enter, alone_in, alone_out, alone_if, alone, flush_by, guarded, leave_by, own_slot, prefetch_by, run_slot_by, switch_by, switch_on, switch_work_by, whole_by, with_end, dom_of, part_of, whole_off, World, Guards, setting_by, Owned, if_due, first_of, first_due, step_among, steps_among}
+use Rattle.world_view.specs.Machine.{Local, setting, switch, clock_of, with_hart, paid, delivered, happened, step, steps, enter_part, with_part, opening_doms, opening, whole, alone_opening, alone_enter, alone_in, alone_out, alone_if, alone, flush_by, guarded, leave_by, own_slot, prefetch_by, run_slot_by, switch_by, switch_on, switch_work_by, whole_by, with_end, dom_of, part_of, whole_off, World, Guards, setting_by, Owned, if_due, first_of, first_due, step_among, steps_among}
 use Rattle.world_view.specs.View.{View, view, view_whole, view_alone, memory_sum}
 use Rattle.world_view.specs.Used.{count_of, largest_of}
-use Rattle.world_view.proofs.steps.InSlot.{local_in}
 
 -- addi x10, x0, byte; addi x17, x0, 1; ecall; addi x17, x0, 0; ecall
 abbrev pub print : ℕ → List ℕ
@@ -327,6 +326,12 @@ first_switch = (refl, refl)
 pub switches : (whole timed_prints 4).used ≡ (1, 755) ∷ (0, 820) ∷ (1, 580) ∷ (0, 292) ∷ []
 unfolding everything
 switches = refl
+
+-- the domain of slot k, after so many of its steps
+abbrev local_in : Image → ℕ → ℕ → Local
+local_in i k n =
+    let d = (entry_of_slot i.all.schedule k).domain in
+    steps (setting i.all.hardware (own_of i d) false) (slot_end i.all.schedule k) n (part_of 0 d (switch i k (whole i k)))
 
 -- the first instruction costs 147: its base, a look-up with two reads that miss, and a fetch that misses both levels
 pub first_instruction : (local_in timed_prints 0 1).clock ≡ 6150 + 147

@@ -1,5 +1,5 @@
-//! Runs an image: `tp run --slots N` reads it from standard input and writes
-//! the report to standard output. The exit code tells how it ended.
+//! The program: its words, standard input and standard output are handed to the
+//! top call. The exit code tells how it ended.
 #![tactic(auto)]
 
 use std::process::ExitCode;

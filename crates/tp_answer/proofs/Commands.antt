@@ -10,8 +10,8 @@ use Rattle.image_record.specs.Record as text
 use Rattle.image_text.specs.Record.{image_of}
 use Rattle.sched_table.specs.Schedule.{harts_in}
 use Rattle.image_check.specs.Checking.{broken}
+use Rattle.image_check.specs.Public.{public_of}
 use Rattle.image_check.specs.Image.{Image, image_from}
-use Rattle.image_check.proofs.Owns.{owns_length}
 use Rattle.image_reading.specs.Reading.{image, checked, most_bytes}
 use Rattle.image_redact.specs.Redacted.{redacted}
 use Rattle.image_writing.specs.Text.{text_of}
@@ -474,6 +474,10 @@ redacts d a h asked done back =
           let same = is.0 ∙ ap (λ (x : Answer). x.0) (none_kept_due d i lacks) in absurd (cc same)
     ]
 
+domains_are : (i : text.Raw) → (image_from i).all.domains ≡ length i.domains
+unfolding public_of
+domains_are i = refl
+
 pub lacks_kept : (d : ℕ) (a : Asked) → IsAnswered a → a.command ≡ Redact d → a.status ≡ Usage
     → LacksDomain d a.left a.left' a.old.written a.new.written
 unfolding broken_for
@@ -496,7 +500,7 @@ lacks_kept d a h asked usage =
               few = few;
               read = image_read a.items i found.is found.unbroken;
             };
-            lacks = omega (arith, lacks, owns_length i);
+            lacks = omega (arith, lacks, domains_are i);
             wrote = is.1 ∙ line;
           }
     ]

@@ -13,7 +13,7 @@ returns c =
         facts = record {
           estate = record { alone = v.facts.estate.alone; stays = v.facts.estate.stays };
           frames = v.facts.frames;
-          has = record { root = v.facts.has.root; pool = v.facts.has.pool; slots = v.facts.has.slots; calls = λ i. c.args.calls };
+          has = record { root = v.facts.has.root; pool = v.facts.has.pool; slots = v.facts.has.slots; calls = λ i. c.args.calls; number = v.facts.has.number };
           holds = v.facts.holds;
           facts = v.facts.facts;
         };
