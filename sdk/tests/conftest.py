@@ -4,6 +4,7 @@ from __future__ import annotations
 
 import os
 import shutil
+import signal
 import subprocess
 import sys
 from pathlib import Path
@@ -16,6 +17,10 @@ sys.path.insert(0, str(SDK))
 from tp_sdk.faults import Missing  # noqa: E402
 from tp_sdk.program import REPOSITORY, Program  # noqa: E402
 from tp_sdk.python import DEBIANS  # noqa: E402
+
+# A shell has its jobs in the background ignore Ctrl-C, and so do all that they start: tests that send it start tools
+# that hear it, as a user's do.
+signal.signal(signal.SIGINT, signal.default_int_handler)
 
 CFLAGS = "CFLAGS=-Os -g -Wall -Wextra -Werror"
 COMPILER = os.environ.get("CROSS", "riscv64-unknown-elf-") + "gcc"

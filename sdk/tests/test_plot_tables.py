@@ -82,6 +82,7 @@ def test_readings_are_a_table(tmp_path: Path) -> None:
     assert all(int(row[3]) > 0 for row in rows)
 
 
+@pytest.mark.usefixtures("program")
 def test_a_timeline_and_a_memory_are_tables(tmp_path: Path) -> None:
     pytest.importorskip("matplotlib")
     image, report, out = EXAMPLES / "victim.toml", EXAMPLES / "victim.report", tmp_path / "a.svg"

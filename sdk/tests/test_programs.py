@@ -50,6 +50,7 @@ def test_reports_are_those_stored(program: Program, built: Path, compiler: str, 
     assert run(program, built, name) == (REPORTS / f"{name}.report").read_text()
 
 
+@pytest.mark.usefixtures("program")
 @pytest.mark.parametrize("name", ("powers", "powers-muldiv"))
 def test_the_examples_are_what_the_tools_make(built: Path, compiler: str, name: str) -> None:
     of = (REPORTS / "compiler").read_text().strip()

@@ -455,5 +455,28 @@ def test_a_worker_that_ends_is_told_of_and_what_is_done_is_kept(tmp_path: Path) 
     assert len(rows_of(out)) % 2 == 0
 
 
+def test_a_program_that_is_another_one_is_told_of_by_whichever_worker_comes_first(tmp_path: Path) -> None:
+    tp = script(tmp_path / "tp", "echo hello")
+    words = (
+        "--vary",
+        "machine.costs.mem=40..59",
+        "--vary",
+        "schedule.pad=bound",
+        "--slots",
+        "1",
+        "--jobs",
+        "4",
+    )
+    command = [sys.executable, SDK / "tp-sweep", VICTIM, *words]
+    for _ in range(5):
+        ended = subprocess.run(
+            command, env=os.environ | {"TP": str(tp)}, capture_output=True, text=True, check=False, timeout=60
+        )
+        assert (ended.returncode, ended.stderr) == (
+            3,
+            f"tp-sweep: {tp} is not the program tp: is TP right?\n",
+        )
+
+
 def test_written_values() -> None:
     assert [written(it) for it in (None, True, 5, "lru", [1, 2])] == ["none", "true", "5", "lru", "[1, 2]"]

@@ -26,6 +26,7 @@ def beside(program: Program, built: Path, tmp_path_factory: pytest.TempPathFacto
     return folder
 
 
+@pytest.mark.usefixtures("program")
 def test_the_example_is_what_the_tools_make(built: Path, compiler: str) -> None:
     of = (Path(__file__).parent / "reports" / "compiler").read_text().strip()
     if compiler != of:

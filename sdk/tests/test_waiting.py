@@ -98,7 +98,7 @@ def test_an_interrupt_is_one_line(tool: str, tmp_path: Path) -> None:
 
 
 @pytest.mark.parametrize("tool", READS)
-@pytest.mark.parametrize("module", ("tempfile", "argparse"))
+@pytest.mark.parametrize("module", ("fnmatch", "argparse"))
 def test_an_interrupt_while_modules_are_loaded_is_one_line(tool: str, module: str, tmp_path: Path) -> None:
     # (a module of Python's own, in whose place another interrupts the process)
     interrupts = "import os, signal, time\nos.kill(os.getpid(), signal.SIGINT)\ntime.sleep(60)\n"

@@ -3,10 +3,7 @@
 from __future__ import annotations
 
 import os
-import shutil
-import subprocess
 import sys
-import tempfile
 from pathlib import Path
 
 from tp_sdk.elf import Loaded, load_elf
@@ -25,6 +22,10 @@ def load_program(program: Path, stack: int | None = None, arch: str = RV32I) -> 
     stack of that many pages."""
     if program.suffix not in SOURCES:
         return load_elf(program, arch)
+    # (what follows takes longer than to load these: a program that is compiled needs none of them)
+    import shutil
+    import tempfile
+
     compiler = os.environ.get("CROSS", CROSS) + "gcc"
     if shutil.which(compiler) is None:
         raise Missing(f"{program}: there is no {compiler}: apt-get install gcc-riscv64-unknown-elf")
@@ -39,6 +40,8 @@ def load_program(program: Path, stack: int | None = None, arch: str = RV32I) -> 
 
 
 def _compiled(source: Path, stack: int | None, arch: str, room: Path) -> Loaded:
+    import shutil
+
     if shutil.which("make") is None:
         raise Missing(f"{source}: there is no make: apt-get install make")
     if any(letter in source.stem for letter in " \t:=%#$\\"):
@@ -58,6 +61,8 @@ def _assembled(source: Path, compiler: str, arch: str, room: Path) -> Loaded:
 
 
 def _run(command: list[str], source: Path, done: str, folder: Path | None = None) -> None:
+    import subprocess
+
     ended = subprocess.run(command, cwd=folder, capture_output=True, text=True, errors="replace", check=False)
     if ended.returncode != 0:
         raise Fault(f"{source}: it can't be {done} and linked\n{ended.stderr.rstrip()}")

@@ -2,6 +2,7 @@
 
 from __future__ import annotations
 
+import gc
 import os
 import signal
 import sys
@@ -73,6 +74,7 @@ def run_command(name: str, command: Callable[[list[str]], int]) -> NoReturn:
     try:
         code = command(sys.argv[1:])
         sys.stdout.flush()
+        gc.freeze()  # (what is there as it ends need not be looked through)
         sys.exit(code)
     except MissingLibrary as missing:
         use_debians(missing.module, _read_already())

@@ -3,9 +3,12 @@
 from __future__ import annotations
 
 from dataclasses import dataclass
+from functools import lru_cache
 
 from tp_sdk.faults import Fault
 from tp_sdk.guards import GUARDS
+
+_SWITCHES = 1024  # lines that are kept: those of many reports are alike
 
 # What reading a line that isn't what it should be leads to.
 BROKEN = (ValueError, IndexError, KeyError)
@@ -55,6 +58,7 @@ def outline_of(text: str, file: str) -> Outline:
     return outline
 
 
+@lru_cache(_SWITCHES)
 def switch_of(line: str, at: int, file: str) -> Switch:
     """Reads the line of an entry's switches, which is line `at` of a file."""
     try:

@@ -3,12 +3,10 @@
 from __future__ import annotations
 
 import os
-import shutil
-import subprocess
 from dataclasses import dataclass, field
 from pathlib import Path
 
-from tp_sdk import library
+from tp_sdk import library, spawning
 from tp_sdk.faults import Missing
 from tp_sdk.folders import IS_INSTALLED
 from tp_sdk.folders import REPOSITORY as REPOSITORY
@@ -42,7 +40,7 @@ class Program:
         shared = library.named_by(path) if named else library.newest(REPOSITORY, path)
         if shared:
             return cls(path.absolute(), shared, progress or Progress())
-        if not path.is_file() or shutil.which(str(path.absolute())) is None:
+        if not path.is_file() or not os.access(path, os.X_OK):
             if IS_INSTALLED and not named:
                 raise Missing(f"there is no program: the variable {VARIABLE} names one, and it is not set")
             where = f"{VARIABLE}={path}" if named else str(path.relative_to(REPOSITORY))
@@ -62,33 +60,36 @@ class Program:
         answered = library.answer(self.shared, words, image) if self.shared else None
         if answered:
             return Ended(*answered)
-        pipe, none = subprocess.PIPE, subprocess.DEVNULL
         try:
-            with subprocess.Popen([self.path, *words], stdin=pipe, stdout=pipe, stderr=none) as process:
-                text = self._written(process, image.encode())
-            return Ended(process.returncode, text.decode())
+            if self.progress.is_shown:
+                code, text = self._told_of(words, image.encode())
+            else:
+                code, text = spawning.run([str(self.path), *words], image.encode())
+            return Ended(code, text.decode())
         except (OSError, UnicodeDecodeError):
             raise self.other() from None
 
-    def _written(self, process: subprocess.Popen[bytes], image: bytes) -> bytes:
-        """What a run writes; meanwhile it is told that time passes, where somebody sees it."""
+    def _told_of(self, words: list[str], image: bytes) -> tuple[int, bytes]:
+        """The exit code of a run and what it writes; meanwhile it is told that time passes."""
+        import subprocess
+
+        pipe, none = subprocess.PIPE, subprocess.DEVNULL
         given: bytes | None = image
-        # (a wait that ends by itself takes longer: it looks now and then whether the process has ended)
-        patience = SHOWN_FROM if self.progress.is_shown else None
-        try:
-            while True:
-                try:
-                    text, _ = process.communicate(given, timeout=patience)
-                    self.progress.end()
-                    return text
-                except subprocess.TimeoutExpired:
-                    given = None
-                    self.progress.wait()
-        # (Ctrl-C, too)
-        except BaseException:
-            process.kill()
-            process.wait()
-            raise
+        with subprocess.Popen([self.path, *words], stdin=pipe, stdout=pipe, stderr=none) as process:
+            try:
+                while True:
+                    try:
+                        text, _ = process.communicate(given, timeout=SHOWN_FROM)
+                        self.progress.end()
+                        return process.returncode, text
+                    except subprocess.TimeoutExpired:
+                        given = None
+                        self.progress.wait()
+            # (Ctrl-C, too)
+            except BaseException:
+                process.kill()
+                process.wait()
+                raise
 
     def other(self) -> Missing:
         """What is told of a file that is another program."""

@@ -2,9 +2,7 @@
 `apt-get install` is. (Older Pythons read this file, too.)"""
 
 import os
-import subprocess
 import sys
-import tempfile
 from typing import Optional
 
 DEBIANS = "/usr/bin/python3"
@@ -25,6 +23,10 @@ def use_debians(module: str, read: Optional[bytes] = None) -> None:
     one and has the module; else returns. What was read of standard input can be read again."""
     if sys.executable == DEBIANS or not _is_script_beside():
         return
+    # (each tool loads this module, and seldom needs these)
+    import subprocess
+    import tempfile
+
     try:
         has = subprocess.run(
             [DEBIANS, "-c", _HAS, module], stdin=subprocess.DEVNULL, stderr=subprocess.DEVNULL, check=False

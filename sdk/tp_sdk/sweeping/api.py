@@ -9,8 +9,8 @@ from pathlib import Path
 from tp_sdk.faults import Fault
 from tp_sdk.program import Program
 from tp_sdk.progress import Progress
-from tp_sdk.sweeping.driving import Work, on_this_machine, processors
-from tp_sdk.sweeping.plan import Plan, Run
+from tp_sdk.sweeping.driving import Done, on_this_machine, processors
+from tp_sdk.sweeping.plan import Plan, Runs
 from tp_sdk.sweeping.planning import Asked, plan_of, values_of
 from tp_sdk.sweeping.rows import Rows, SweepRow
 from tp_sdk.sweeping.tables import Table
@@ -99,12 +99,11 @@ def swept(
     that are done are in the table."""
     is_there = [plan.key(point) in table.there for point in range(len(plan.points))]
     wanted = [point for point, has in enumerate(is_there) if not has]
-    runs = (Run(point, secret) for point in wanted for secret in range(len(plan.secrets)))
+    runs = Runs(wanted, len(plan.secrets))
     rows = Rows(plan)
     early: dict[int, list[SweepRow]] = {}
     try:
-        with _workers(plan, program, jobs, scheduler, len(wanted) * len(plan.secrets)) as work:
-            done = work(runs)
+        with _workers(plan, program, jobs, scheduler, runs) as done:
             for point, has in enumerate(is_there):
                 while not has and point not in early:
                     ran = next(done)
@@ -123,13 +122,13 @@ def swept(
 
 
 def _workers(
-    plan: Plan, program: Program, jobs: int | None, scheduler: str | None, left: int
-) -> AbstractContextManager[Work]:
-    if scheduler is not None and left > 0:
+    plan: Plan, program: Program, jobs: int | None, scheduler: str | None, runs: Runs
+) -> AbstractContextManager[Done]:
+    if scheduler is not None and runs:
         from tp_sdk.sweeping.cluster import on_a_cluster
 
-        return on_a_cluster(plan, program, scheduler, left)
-    return on_this_machine(plan, program, jobs or processors(), left)
+        return on_a_cluster(plan, program, scheduler, runs)
+    return on_this_machine(plan, program, jobs or processors(), runs)
 
 
 def _named(where: str, values: str | Iterable[Value]) -> tuple[str, tuple[str, Values]]:

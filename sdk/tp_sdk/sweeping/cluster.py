@@ -11,7 +11,7 @@ import tempfile
 import warnings
 import zipfile
 from collections.abc import Iterator
-from concurrent.futures import CancelledError, Future
+from concurrent.futures import FIRST_COMPLETED, CancelledError, Future, wait
 from contextlib import contextmanager
 from pathlib import Path
 from time import monotonic
@@ -19,35 +19,34 @@ from typing import Any
 
 from tp_sdk.faults import Fault, Missing, MissingLibrary
 from tp_sdk.program import VARIABLE, Program
-from tp_sdk.sweeping.driving import Work, drive
-from tp_sdk.sweeping.plan import Plan, Run
+from tp_sdk.sweeping.driving import Done, drive
+from tp_sdk.sweeping.plan import Plan, Run, Runs
 from tp_sdk.sweeping.running import Chunk, Runner
 
 _ADDRESS = re.compile(r"(tcp|tls|ucx|ws|wss)://[^/]+:[0-9]{1,5}")
 _PATIENCE = 10  # seconds in which a scheduler answers, and in which there is a worker again
+_LOOK = 1.0  # seconds: so long it waits before it looks after the workers
 
 
 @contextmanager
-def on_a_cluster(plan: Plan, program: Program, scheduler: str, left: int) -> Iterator[Work]:
-    """What does the runs, of which there are `left`, on a cluster's workers. Of a worker that ends, others do the runs again."""
+def on_a_cluster(plan: Plan, program: Program, scheduler: str, runs: Runs) -> Iterator[Done]:
+    """Does the runs on a cluster's workers. Of a worker that ends, others do the runs again."""
     with _client(scheduler) as client:
         with _told_as_faults(scheduler):
             client.wait_for_workers(1, timeout=_PATIENCE)
             _hand_out_tools(client)
             # (as a task it is there again when the worker that has it ends)
             shared = client.submit(pickle.loads, pickle.dumps(plan), pure=False)
-        executor = client.get_executor(pure=False)
-        watch = _Watch(client, scheduler)
+        workers = _Cluster(client, scheduler, (shared, str(program.path)), runs)
 
-        def submit(runs: list[Run]) -> Future[Chunk]:
-            future: Future[Chunk] = executor.submit(_chunk, shared, str(program.path), runs)
-            return future
-
-        def work(runs: Iterator[Run]) -> Iterator[Any]:
+        def done() -> Done:
             with _told_as_faults(scheduler):
-                yield from drive(submit, watch.threads, runs, left, watch.look)
+                yield from drive(workers, len(runs))
 
-        yield work
+        try:
+            yield done()
+        finally:
+            workers.cancel()
 
 
 @contextmanager
@@ -99,19 +98,33 @@ def _told_as_faults(scheduler: str) -> Iterator[None]:
         raise Fault(f"{scheduler}: no scheduler of Dask with a worker answers there") from None
 
 
-class _Watch:
-    """Looks after a cluster while it works."""
+class _Cluster:
+    """A cluster's workers, each thread of which does runs."""
 
-    def __init__(self, client: Any, scheduler: str) -> None:
-        self._client, self._scheduler = client, scheduler
+    def __init__(self, client: Any, scheduler: str, given: tuple[Any, str], runs: Runs) -> None:
+        self._client, self._scheduler, self._given, self._runs = client, scheduler, given, runs
+        self._executor = client.get_executor(pure=False)
+        self._pending: set[Future[Chunk]] = set()
         self._seen = monotonic()
 
-    def threads(self) -> int:
+    def count(self) -> int:
         """How many runs can be done at once."""
         threads: dict[str, int] = self._client.nthreads()
         return max(1, sum(threads.values()))
 
-    def look(self) -> None:
+    def submit(self, part: range) -> None:
+        """Has a worker do the runs of these numbers."""
+        self._pending.add(self._executor.submit(_chunk, *self._given, self._runs.part(part)))
+
+    def wait(self) -> list[Chunk]:
+        """What was done meanwhile: some at least."""
+        while True:
+            done, self._pending = wait(self._pending, _LOOK, return_when=FIRST_COMPLETED)
+            if done:
+                return [it.result() for it in done]
+            self._look()
+
+    def _look(self) -> None:
         """Faults a cluster that has lost its scheduler, or has had no worker for some seconds."""
         if self._client.nthreads():
             self._seen = monotonic()
@@ -119,6 +132,11 @@ class _Watch:
             raise Fault(
                 f"{self._scheduler}: it has no worker any more: the same command goes on from what is done"
             )
+
+    def cancel(self) -> None:
+        """Has no more done."""
+        for it in self._pending:
+            it.cancel()
 
 
 def _hand_out_tools(client: Any) -> None:

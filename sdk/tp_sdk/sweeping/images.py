@@ -42,6 +42,15 @@ class Built:
     entries: list[Entry]
 
 
+@dataclass(frozen=True)
+class _Frame:
+    """The texts before and after those of the domains; the schedule's entries."""
+
+    machine: str
+    schedule: str
+    entries: list[Entry]
+
+
 class Images:
     """Builds the images of one description's variants. A source is compiled once for each stack and each kind
     of machine, a domain is written once for its values, and a bound is asked for once for each machine."""
@@ -52,7 +61,7 @@ class Images:
         self._description, self._programs, self._program = description, programs, program
         self._texts = _Texts()
         self._bounds: dict[str, list[int]] = {}
-        self._last_machine: tuple[dict[str, Any], str] | None = None
+        self._last: tuple[Any, _Frame] | None = None
         self._noise: dict[int, Loaded] = {}
 
     def load(self, variant: Variant) -> None:
@@ -76,34 +85,53 @@ class Images:
             noise = self._noise_domain(variant, arch)
             domains, schedule = [*domains, noise], [*schedule, _noise_entry(schedule, noise)]
             texts.append(image_domain(noise, _copy(self._drawn(variant.noise))).to_toml())
-        machine = self._machine_text(variant.machine)
-        numbers = self._numbers | {NOISE: len(self._description.domains)}
+        frame = self._frame(variant.machine, domains, schedule, texts)
+        return Built("\n".join([frame.machine, *texts, frame.schedule]), frame.entries)
+
+    def _frame(
+        self,
+        machine: dict[str, Any],
+        domains: list[DomainDescription],
+        schedule: list[EntryDescription],
+        texts: list[str],
+    ) -> _Frame:
+        """What stands before and after the domains' texts: most often that of the run before."""
+        numbers = self._numbers
         calls = [
             domains[_number(it, numbers)].calls if _is_one(it, numbers, domains) else None for it in schedule
         ]
+        made_of = (machine, schedule, calls)
+        if self._last is None or self._last[0] != made_of:
+            self._last = made_of, self._framed(machine, schedule, calls, texts)
+        return self._last[1]
 
-        def image(pads: list[int]) -> Built:
-            entries = [image_entry(it, numbers, pad) for it, pad in zip(schedule, pads)]
-            text = "\n".join([machine, *texts, *(it.to_toml() for it in entries)])
-            return Built(text, [Entry(it.domain, it.length, it.pad, it.hart) for it in entries])
+    def _framed(
+        self,
+        machine: dict[str, Any],
+        schedule: list[EntryDescription],
+        calls: list[list[int] | None],
+        texts: list[str],
+    ) -> _Frame:
+        """The same, written; the bound is asked for of an image with no pads, where a pad is to be that."""
+        before = machine_text(self._description.version, machine)
 
-        pads = [0] * len(schedule)
+        def frame(pads: list[int]) -> _Frame:
+            entries = [image_entry(it, self._numbers, pad) for it, pad in zip(schedule, pads)]
+            after = "\n".join(it.to_toml() for it in entries)
+            return _Frame(before, after, [Entry(it.domain, it.length, it.pad, it.hart) for it in entries])
+
+        made = frame([0] * len(schedule))
         if any(it.pad is None for it in schedule) and self._program is not None:
-            known = f"{machine} {calls}"
+            known = f"{before} {calls}"
             if known not in self._bounds:
-                self._bounds[known] = self._asked_bounds(image(pads).text, len(pads), self._program)
-            pads = self._bounds[known]
-        return image(pads)
-
-    def _machine_text(self, machine: dict[str, Any]) -> str:
-        """The machine's lines: most often those of the run before."""
-        if self._last_machine is None or self._last_machine[0] != machine:
-            self._last_machine = (machine, machine_text(self._description.version, machine))
-        return self._last_machine[1]
+                text = "\n".join([made.machine, *texts, made.schedule])
+                self._bounds[known] = self._asked_bounds(text, len(schedule), self._program)
+            made = frame(self._bounds[known])
+        return made
 
     @cached_property
     def _numbers(self) -> dict[str, int]:
-        return numbers_of(self._description)
+        return numbers_of(self._description) | {NOISE: len(self._description.domains)}
 
     def _domain_text(self, number: int, it: DomainDescription, arch: str) -> str:
         is_own = it is self._description.domains[number]

@@ -39,6 +39,12 @@ class Variant:
         """The description itself."""
         return cls(description.machine, list(description.domains), list(description.schedule))
 
+    def copy(self) -> Variant:
+        """Another one of the same."""
+        return Variant(
+            self.machine, list(self.domains), list(self.schedule), self.off, self.harts, self.noise
+        )
+
 
 @dataclass(frozen=True)
 class MachineKey:

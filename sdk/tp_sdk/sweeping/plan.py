@@ -3,7 +3,6 @@
 from __future__ import annotations
 
 import hashlib
-import random
 from collections.abc import Iterable, Sequence
 from dataclasses import dataclass, field
 from functools import cached_property
@@ -41,6 +40,8 @@ class Grid:
         every = range(prod(len(it.values) for it in its))
         if drawn is None or drawn >= len(every):
             return cls(its, every)
+        import random  # (it takes a while to load)
+
         return cls(its, sorted(random.Random(seed).sample(every, drawn)))
 
     def __len__(self) -> int:
@@ -66,6 +67,21 @@ class Run:
 
     point: int
     secret: int
+
+
+@dataclass(frozen=True)
+class Runs:
+    """The runs of some points, each with every value of the secret, of which there are so many."""
+
+    points: Sequence[int]
+    secrets: int
+
+    def __len__(self) -> int:
+        return len(self.points) * self.secrets
+
+    def part(self, numbers: range) -> list[Run]:
+        """The runs of these numbers."""
+        return [Run(self.points[it // self.secrets], it % self.secrets) for it in numbers]
 
 
 # What a program is compiled for, and so loaded by: its domain's place, the stack, the instructions.
@@ -99,12 +115,17 @@ class Plan:
         """The names of what is the secret."""
         return "+".join(it.name for it in self.secrets.varied)
 
-    def variant(self, run: Run) -> Variant:
-        """What the description says for one run."""
+    def at(self, point: int) -> Variant:
+        """What the description says at a point, with no secret put."""
         variant = Variant.of(self.description)
-        self.points.put(variant, run.point)
-        self.secrets.put(variant, run.secret)
+        self.points.put(variant, point)
         return variant
+
+    def with_secret(self, variant: Variant, secret: int) -> Variant:
+        """What it says with this value of the secret."""
+        made = variant.copy()
+        self.secrets.put(made, secret)
+        return made
 
     @cached_property
     def sweep(self) -> str:

@@ -12,7 +12,7 @@ from tp_sdk.faults import Fault, Missing
 from tp_sdk.outline import outline_of, switch_of
 from tp_sdk.program import Ended, Program
 from tp_sdk.running import words_for
-from tp_sdk.schedule import hart_for, time_of
+from tp_sdk.schedule import Entry, Time, hart_for, time_of
 from tp_sdk.sweeping.images import Built, Images, Refused
 from tp_sdk.sweeping.places import Variant
 from tp_sdk.sweeping.plan import Plan, Run
@@ -57,6 +57,8 @@ class Runner:
     def __init__(self, plan: Plan, program: Program) -> None:
         self._plan, self._program = plan, program
         self._images = Images(plan.description, plan.programs, program)
+        self._last_point: tuple[int, Variant] | None = None
+        self._last_times: tuple[list[Entry], dict[int, Time]] = ([], {})
 
     def chunk(self, runs: Sequence[Run]) -> Chunk:
         """Does some runs."""
@@ -65,7 +67,7 @@ class Runner:
 
     def ran(self, run: Run) -> Ran:
         """Does a run; an image that is refused is no fault of the sweep."""
-        variant = self._plan.variant(run)
+        variant = self._variant(run)
         try:
             built = self._images.build(variant)
             words = [*words_for(variant.off, seed=variant.harts), "--slots", str(self._plan.slots)]
@@ -80,6 +82,21 @@ class Runner:
             return Ran(run, refused=str(fault))
         return self._summary(run, built, ended)
 
+    def _variant(self, run: Run) -> Variant:
+        """What a run is of: its point is most often that of the run before."""
+        if self._last_point is None or self._last_point[0] != run.point:
+            self._last_point = run.point, self._plan.at(run.point)
+        return self._plan.with_secret(self._last_point[1], run.secret)
+
+    def _time(self, entries: list[Entry], domain: int) -> Time:
+        """How long the slots of a domain's hart take: the schedule is most often that of the run before."""
+        if self._last_times[0] is not entries:
+            self._last_times = entries, {}
+        times = self._last_times[1]
+        if domain not in times:
+            times[domain] = time_of(entries, self._plan.slots, hart_for(entries, domain))
+        return times[domain]
+
     def _summary(self, run: Run, built: Built, ended: Ended) -> Ran:
         file = str(self._plan.description.file)
         outline = outline_of(ended.text, file)
@@ -91,7 +108,7 @@ class Runner:
         """What an observer came to, by the lines of its section. (A sweep reads no more of them.)"""
         values = dict(line.split(" ", 1) for line in lines[:3])
         number = int(values["domain"].split()[0])
-        time = time_of(built.entries, self._plan.slots, hart_for(built.entries, number))
+        time = self._time(built.entries, number)
         status, retired = values["status"].split()[0], int(values["retired"])
         return Seen(_in_short(lines[1:]), status, retired, time.cycles, time.in_slots)
 
