@@ -251,6 +251,8 @@ MOMENT = Within(0, 1_000_000_000_000)
 LENGTH = Within(1_000, 1_000_000)
 PAD = Within(0, 1_000_000)
 CALL = Within(0, 14)
+# The calls on mailboxes, which `calls` may list, too: no image has mailboxes as yet, so they are bad calls.
+MAIL_CALL = Within(19, 20)
 HART = Within(0, 3)
 
 

@@ -264,7 +264,8 @@ class Rules:
         for it in self.domains:
             calls = it.table.get("calls", [])
             for place, call in enumerate(calls):
-                if not _is_within(call, keys.CALL) or (place and call <= calls[place - 1]):
+                is_call = _is_within(call, keys.CALL) or _is_within(call, keys.MAIL_CALL)
+                if not is_call or (place and call <= calls[place - 1]):
                     yield Refusal(18, it.number, place, keys.CALL.high)
 
     # ---- harts

@@ -162,7 +162,7 @@ _VALUES: dict[tuple[Place, str], Schema] = {
         },
         "maxItems": keys.MOMENTS_MOST,
     },
-    (Place.DOMAIN, "calls"): {"items": of_kind(keys.CALL), "uniqueItems": True},
+    (Place.DOMAIN, "calls"): {"items": of_kind(keys.Either((keys.CALL, keys.MAIL_CALL))), "uniqueItems": True},
     (Place.SEGMENT, "rights"): {"enum": list(keys.RIGHTS)},
     (Place.SEGMENT, "hex"): {"pattern": f"^{keys.HEX}$"},
     (Place.ENTRY, "domain"): _entry_of(_MOST)["domain"],

@@ -17,11 +17,11 @@ use Rattle.cap_table.specs.Slots.{revoked, revoked_count}
 use Rattle.cap_table.proofs.RevokeLemmas.{entries_few, count_below}
 use Rattle.call_table.specs.Domain.{Dom, reply_past, exited, with_caps}
 use Rattle.call_table.specs.Claims.{Estate}
-use Rattle.call_table.specs.Calls.{Act, Note, zeroed_in, entries_in, op_of, work_of, empties, empties_buffer, clears_entries, put_byte, alloc, install, map_page, unmap, may_give, copy_refusal, copy, drop_slot, delete, emptied_at, revoke, call_of, call, number_made}
+use Rattle.call_table.specs.Calls.{Act, Note, zeroed_in, entries_in, op_of, work_of, empties, empties_buffer, put_byte, alloc, install, map_page, unmap, may_give, copy_refusal, copy, drop_slot, delete, emptied_at, revoke, call_of, call, number_made}
 use Rattle.call_table.specs.Laws.{Kept, IsMine, IsOwnWork, EmptiesLaw, OperationLaw, WorkLaw, PermittedLaw}
 use Rattle.call_table.proofs.QuietCalls.{poll_quiet, wait_quiet, signal_quiet, spawn_quiet, yield_quiet, end_quiet}
 use Rattle.call_table.proofs.ConfinedCalls.{ready, any_call}
-use Rattle.call_table.proofs.WorkSteps.{Works, IsWork, drops_fewer, drop_slot_drops, stop_works, check_works, some_works, filled_works, slot_works, page_refusal_works, table_refusal_works, allowed_works, unless_works, quiet_works, give_works, zero_works, map_at_works, install_at_works, unmap_at_works, unmap_all_works, drops_works}
+use Rattle.call_table.proofs.WorkSteps.{Works, IsWork, drop_slot_drops, stop_works, check_works, some_works, filled_works, slot_works, page_refusal_works, table_refusal_works, allowed_works, unless_works, quiet_works, give_works, zero_works, map_at_works, install_at_works, unmap_at_works, unmap_all_works, drops_works}
 
 -- ---- each call
 
@@ -146,6 +146,11 @@ call_work d number v ns w = by_test (is_call number) refl
           few = let few = w.few in omega (arith, few, no);
         }
 
+-- a call that does nothing beside its own work
+pub idle_work : (number : ℕ) → IsCallWork (work_of number [])
+unfolding work_of zeroed_in entries_in
+idle_work number = record { call = is_call_op number; zeroes = λ frame is. absurd (cc is); few = omega arith }
+
 pub call_of_bounded : (e : Estate) (d : Dom) (m : Mem) (number a b c : ℕ)
     → IsCallWork (work_of number (call_of e d number a b c m).notes)
 call_of_bounded e d m number a b c =
@@ -176,7 +181,7 @@ calls_bounded e d m =
     call_of_bounded e d m (number_made e d) (register regs 10) (register regs 11) (register regs 12)
 
 -- an operation of a call's number is that of a call which the domain may make
-made_permitted : (calls number : ℕ) → is_call (op_of (permitted calls number)) ≡ true
+pub made_permitted : (calls number : ℕ) → is_call (op_of (permitted calls number)) ≡ true
     → may_make calls (op_of (permitted calls number)) ≡ true
 made_permitted calls number = by_test (may_make calls number) refl
   where

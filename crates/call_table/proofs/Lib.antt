@@ -28,3 +28,5 @@ pub mod MeaningPages
 pub mod ErrorOrder
 pub mod RightsKept
 pub mod EntriesWritten
+pub mod FreedFrames
+pub mod MailCalls

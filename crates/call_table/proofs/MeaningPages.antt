@@ -1,5 +1,5 @@
--- What TABLE and UNMAP leave of page tables, and which calls leave memory.
-use Rattle.std.proofs.Common.{◌≡◌, ◌≢◌, ◌∙◌, ap, sym, subst, refl, ℕ, ◌<◌, Bool, true, false, true≢false, not, eqb-true, length, [], Option, Some, None}
+-- What TABLE, UNMAP and DELETE leave of page tables, and which calls leave memory.
+use Rattle.std.proofs.Common.{◌≡◌, ◌≢◌, ◌∙◌, inr, ap, sym, subst, refl, ℕ, ◌<◌, Bool, true, false, true≢false, not, eqb-true, length, [], Option, Some, None}
 use Rattle.std.specs.Prelude.{nat_eq, is_some, if◌then◌else◌}
 use Rattle.tp_base.specs.Act.{Done, go_on, ◌>>=◌, ◌>>◌, give, stop, check, either}
 use Rattle.phys_mem.specs.Mem.{Mem, word, word-written_frame}
@@ -12,21 +12,21 @@ use Rattle.page_map.specs.Changes.{installed}
 use Rattle.page_map.proofs.KeptLemmas.{not_valid}
 use Rattle.page_map.proofs.RefusalLemmas.{map_free}
 use Rattle.page_map.proofs.PageLemmas.{page_elsewhere, cleared_fault}
-use Rattle.page_map.proofs.RegionLemmas.{region_elsewhere, first_is}
+use Rattle.page_map.proofs.RegionLemmas.{region_elsewhere, first_is, uninstalled_fault}
 use Rattle.cap_table.specs.declared.Cap.{Cap}
 use Rattle.cap_table.specs.declared.Cap.TheVariants as cap
 use Rattle.cap_table.specs.Slots.{cap_at, table_of, noted}
 use Rattle.call_table.specs.Domain.{Dom, replied, placed, done, exited, with_caps}
 use Rattle.call_table.specs.Claims.{Claim, Estate, is_mine, claims, claim_of, region_of}
-use Rattle.call_table.specs.Calls.{Note, Act, Directory, some_or, is_slot, table_in, unless_refused, copy_refusal, put_byte, with_slot, install, copy, call_of, call, number_made}
+use Rattle.call_table.specs.Calls.{Note, Act, Directory, some_or, is_slot, table_in, unless_refused, copy_refusal, put_byte, with_slot, install, clear_entry, uninstall_at, drop_slot, delete, copy, call_of, call, number_made}
 use Rattle.call_table.specs.Laws.{Kept}
-use Rattle.call_table.specs.Meanings.{argument_a, argument_b, argument_c, touches_memory, MemoryLaw, IsInstalled, IsTableCall, TableLaw, IsUnmapped, UnmapLaw}
+use Rattle.call_table.specs.Meanings.{Makes, memory_after, argument_a, argument_b, argument_c, touches_memory, MemoryLaw, IsInstalled, IsTableCall, TableLaw, IsUnmapped, UnmapLaw, IsUninstalled, DeletedTableLaw, DeletedLineLaw}
 use Rattle.call_table.proofs.ClaimLaws.{not_root}
 use Rattle.call_table.proofs.TablesSlots.{filled_within, claim_at, cap_same, cap_other}
 use Rattle.call_table.proofs.TablesMeaning.{page_tables}
 use Rattle.call_table.proofs.QuietCalls.{Quiet, later_quiet}
 use Rattle.call_table.proofs.ConfinedCalls.{ready}
-use Rattle.call_table.proofs.MeaningSteps.{Whatever, Gives, given, give_gives, install_gives, table_refusal_gives, check_gives, some_gives, filled_gives, allowed_gives}
+use Rattle.call_table.proofs.MeaningSteps.{Whatever, Gives, given, bind_gives, give_gives, clear_gives, buffer_gives, install_gives, table_refusal_gives, check_gives, some_gives, filled_gives, allowed_gives}
 use Rattle.call_table.proofs.MeaningNumbers.{by_number, cleared, unmap_is}
 
 -- ---- TABLE
@@ -143,6 +143,50 @@ unmap_means e d m frame rights va h is there =
     (sym (unmap_is e d m frame rights va is
     (subst (λ (n : ℕ). argument_a d < n) h.slots (within e d m frame rights va h there)) there))
     (cleared_means e d m frame rights va h there)
+
+-- ---- DELETE
+
+module _ (e : Estate) (d : Dom) (m : Mem) (a : ℕ) where
+  -- memory without the entry that the slot's capability stands for
+  abbrev without_entry : Mem
+  without_entry = (clear_entry e.root (cap_at d.caps a) m).state
+
+  abbrev Cleared : Dom → Mem → Type 0
+  Cleared x n = n ≡ without_entry
+
+  delete_clears : Gives Whatever Cleared (delete e d a m)
+  unfolding delete drop_slot
+  delete_clears =
+      filled_gives Whatever Cleared m d (λ _. tt) a _ (λ _ c there.
+      check_gives Whatever Cleared m d (λ _. tt) 12 _ _ (λ _.
+      bind_gives Whatever Cleared Cleared (drop_slot e a d) _ m
+      (clear_gives Whatever Cleared m e.root (cap_at d.caps a) _ (give_gives Whatever Cleared _ _ refl)) (λ x n same.
+      buffer_gives Whatever Cleared n _ (give_gives Whatever Cleared n _ same))))
+
+deleted_memory : (e : Estate) (d x : Dom) (m : Mem) → Makes e d 7 → (call e d m).value ≡ inr x
+    → memory_after e d m ≡ without_entry e d m (argument_a d)
+unfolding call_of
+deleted_memory e d x m is does =
+    let same = by_number e d m 7 is in
+    ap (λ (r : Done Mem Note Dom Dom). r.state) same
+    ∙ given Whatever (Cleared e d m (argument_a d)) (delete e d (argument_a d) m) (delete_clears e d m (argument_a d)) x
+    (ap (λ (r : Done Mem Note Dom Dom). r.value) (sym same) ∙ does)
+
+pub deleted_table : DeletedTableLaw
+unfolding clear_entry uninstall_at
+deleted_table e d x m frame va h is does there =
+    let map = (page_tables e d m h).map in
+    subst (IsUninstalled e va m)
+    (sym (deleted_memory e d x m is does ∙ ap (λ (o : Option Cap). (clear_entry e.root o m).state) there))
+    (record {
+      faults = uninstalled_fault m e.root e.share.frames va map;
+      elsewhere = region_elsewhere m e.root e.share.frames va 0 map;
+    })
+
+pub deleted_line : DeletedLineLaw
+unfolding clear_entry give
+deleted_line e d x m line is does there =
+    deleted_memory e d x m is does ∙ ap (λ (o : Option Cap). (clear_entry e.root o m).state) there
 
 -- ---- calls that leave memory
 

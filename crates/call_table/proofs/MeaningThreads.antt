@@ -1,5 +1,5 @@
 -- What the calls of threads, lines and output leave of a domain.
-use Rattle.std.proofs.Common.{◌≡◌, ◌≢◌, ◌∙◌, ap, sym, subst, refl, ℕ, suc, ◌+◌, ◌<◌, ◌%◌, ◌^◌, Bool, true, false, true≢false, not, arith, length, get_or, set, get_or-set_same, get_or-set_other, inl, inr, Option, Some, None}
+use Rattle.std.proofs.Common.{◌≡◌, ◌≢◌, ◌∙◌, ap, sym, subst, subst₂, refl, ℕ, suc, ◌+◌, ◌<◌, ◌≤◌, ◌%◌, ◌^◌, Bool, true, false, true≢false, not, arith, length, get_or, set, get_or-set_same, get_or-set_other, inl, inr, Option, Some, None}
 use Rattle.std.specs.Prelude.{if◌then◌else◌, List, [], ◌∷◌, ◌++◌}
 use Rattle.std.specs.List.{list_any}
 use Rattle.std.proofs.lemmas.Bool.{cases_eq, cases_lt}
@@ -7,17 +7,17 @@ use Rattle.std.proofs.lemmas.List.{get_or-replicate, get_or_past, length-set}
 use Rattle.std.proofs.lemmas.List.Folds.{list_any_at}
 use Rattle.rv_core.specs.Registers.{zeros}
 use Rattle.thread_set.specs.declared.Thread.{Thread}
-use Rattle.thread_set.specs.declared.ThreadState.TheVariants.{Ended}
-use Rattle.thread_set.specs.Threads.{Threads, AreThreads, all_of, current_number, never, thread_at, is_ready, is_live, in_state, yielded, given_way, with_current, with_thread, started, vacant, started_at, spawned, finished, waiter, resumed, resumed_at, woken, end_live}
+use Rattle.thread_set.specs.declared.ThreadState.TheVariants.{Waiting, Ended}
+use Rattle.thread_set.specs.Threads.{Threads, AreThreads, all_of, current_number, never, thread_at, is_ready, is_live, in_state, between, yielded, given_way, with_current, with_thread, started, vacant, started_at, spawned, blocked, finished, waiter, resumed, resumed_at, woken, end_live}
 use Rattle.thread_set.proofs.Parts.{number-below}
 use Rattle.thread_set.proofs.Places.{position-first, position-nowhere}
-use Rattle.thread_set.proofs.Turns.{yielded-ready, yielded-soonest, yielded-all, given-all}
+use Rattle.thread_set.proofs.Turns.{yielded-ready, yielded-soonest, yielded-none, yielded-all, given-all}
 use Rattle.thread_set.proofs.Changes.{spawned-eight, spawned-at, spawned-others, blocked-at, blocked-others, finished-at, finished-others, put-turn, ended-at}
 use Rattle.call_table.specs.declared.DomainStatus.TheVariants.{Exited}
 use Rattle.call_table.specs.Domain.{Dom, placed, recorded, replied, done, exited, with_bit, signalled_by, signalled, delivered_on, turned, waiting, has_live, thread_ended, with_spawned}
 use Rattle.call_table.specs.Calls.{bit_value, waited}
 use Rattle.call_table.specs.ThreadLaws.{MayRun}
-use Rattle.call_table.specs.Meanings.{argument_a, argument_b, caller, answered, IsExited, ExitLaw, IsLastLive, IsThreadEnded, EndThreadLaw, IsPrinted, PutLaw, OutputFullLaw, IsPolled, IsWaiting, PollSetLaw, PollClearLaw, WaitSetLaw, WaitClearLaw, IsSignalled, SignalLaw, IsVacant, IsStarted, IsSpawned, SpawnLaw, NoThreadLaw, IsYielded, YieldLaw}
+use Rattle.call_table.specs.Meanings.{argument_a, argument_b, caller, answered, PassesTurn, IsExited, ExitLaw, IsLastLive, IsThreadEnded, EndThreadLaw, IsPrinted, PutLaw, OutputFullLaw, IsPolled, IsWaiting, PollSetLaw, PollClearLaw, WaitSetLaw, WaitClearLaw, IsSignalled, SignalLaw, IsVacant, IsStarted, IsSpawned, SpawnLaw, NoThreadLaw, IsYielded, YieldLaw}
 use Rattle.call_table.proofs.ThreadLawsTurns.{ready_live, current_at, current_eight, current_others, current_stays, waiter_waits, waits_apart}
 use Rattle.call_table.proofs.MeaningNumbers.{exit_is, end_is, yield_is, put_is, full_is, poll_is, wait_is, signal_is, spawn_is, none_is}
 
@@ -59,6 +59,45 @@ finished_eight ts sound = given-sound (with_current ts (in_state Ended ts.curren
     given-sound : (s : Threads) → AreThreads s → AreThreads (given_way s)
     given-sound s h = record { eight = ap length (given-all s h) ∙ h.eight }
 
+-- ---- a caller that is no longer ready
+
+module _ (was : Threads) (x : Thread) (eight : AreThreads was) (quiet : is_ready x.state ≡ false) where
+  abbrev stopped : Threads
+  stopped = with_current was x
+
+  stopped_eight : AreThreads stopped
+  stopped_eight = current_eight was eight x
+
+  passes : given_way stopped ≡ yielded stopped
+  unfolding given_way with_current
+  passes = ap (λ (b : Bool). if b then stopped else yielded stopped) quiet
+
+  still : (t : ℕ) → thread_at (yielded stopped) t ≡ thread_at stopped t
+  still t = ap (λ (xs : List Thread). get_or xs t never) (yielded-all stopped stopped_eight)
+
+  state_of : (t : ℕ) (b : Bool) → is_ready (thread_at (yielded stopped) t).state ≡ b
+      → is_ready (thread_at stopped t).state ≡ b
+  state_of t b is = ap (λ (y : Thread). is_ready y.state) (sym (still t)) ∙ is
+
+  passed : (d y : Dom) → current_number was ≡ caller d → y.threads ≡ yielded stopped → PassesTurn d y
+  unfolding with_current
+  passed d y caller_is is =
+      let next : PassesTurn (record d { threads = was }) (record y { threads = yielded stopped }) =
+      record {
+        ready = λ t below ready. yielded-ready stopped t stopped_eight below (state_of t true ready);
+        soonest = λ t below ready. yielded-soonest stopped t stopped_eight below (state_of t true ready);
+        none = λ none.
+            ap current_number (yielded-none stopped stopped_eight (λ t below. state_of t false (none t below)));
+      } in
+      record {
+        ready = subst (λ (ts : Threads). (t : ℕ) → t < 8 → is_ready (thread_at ts t).state ≡ true → is_ready ts.current.state ≡ true)
+            (sym is) next.ready;
+        soonest = subst₂ (λ (ts : Threads) (n : ℕ). (t : ℕ) → t < 8 → is_ready (thread_at ts t).state ≡ true
+            → between n (current_number ts) ≤ between n t) (sym is) caller_is next.soonest;
+        none = subst₂ (λ (ts : Threads) (n : ℕ). ((t : ℕ) → t < 8 → is_ready (thread_at ts t).state ≡ false)
+            → current_number ts ≡ n) (sym is) caller_is next.none;
+      }
+
 module _ (d : Dom) (sound : AreThreads d.threads) where
   none_left : IsLastLive d → has_live (after_end d) ≡ false
   none_left last =
@@ -80,12 +119,14 @@ module _ (d : Dom) (sound : AreThreads d.threads) where
       (ap (λ (x : Thread). is_live x.state) (finished-others d.threads t sound other) ∙ live)
 
   ended_means : IsThreadEnded d (thread_ended d)
-  unfolding thread_ended
+  unfolding thread_ended finished
   ended_means = record {
     ended = finished-at d.threads sound;
     others = λ t other. finished-others d.threads t sound other;
     last = λ last. ap (λ (t : Bool). if t then d.status else Exited 0) (none_left last);
     not_last = λ t below other live. ap (λ (b : Bool). if b then d.status else Exited 0) (one_left t below other live);
+    turn = passed d.threads (in_state Ended d.threads.current) sound refl d (thread_ended d) refl
+        (passes d.threads (in_state Ended d.threads.current) sound refl);
     rest = refl;
   }
 
@@ -124,7 +165,7 @@ polled_means value line d = record {
 }
 
 waiting_means : (line : ℕ) (d : Dom) → AreThreads d.threads → IsWaiting line d (waiting line d)
-unfolding waiting with_current
+unfolding waiting with_current blocked
 waiting_means line d sound =
     let x : Thread = record d.threads.current { pc = (d.threads.current.pc + 4) % 2 ^ 32 } in
     let past : Threads = with_current d.threads x in
@@ -132,6 +173,7 @@ waiting_means line d sound =
     record {
       waits = blocked-at past line eight;
       others = λ t other. blocked-others past line t eight other ∙ current_others d.threads sound x t other;
+      turn = passed past (in_state (Waiting line) x) eight refl d (waiting line d) refl (passes past (in_state (Waiting line) x) eight refl);
       rest = refl;
     }
 

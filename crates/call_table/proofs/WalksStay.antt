@@ -65,7 +65,7 @@ module _ (m k : Mem) (frames root va : ℕ) (access : Access) (leaf : ℕ) (s : 
 walks_by_entries : (e : Estate) (m k : Mem) → KeepsEntries m k e.root → KeepsWalks e m k
 walks_by_entries e m k s = record { each = λ va leaf access is. walk_stays m k e.share.frames e.root va access leaf s is }
 
-same_walks : (e : Estate) (m k : Mem) → k ≡ m → KeepsWalks e m k
+pub same_walks : (e : Estate) (m k : Mem) → k ≡ m → KeepsWalks e m k
 same_walks e m k same = subst (KeepsWalks e m) (sym same) (record { each = λ va leaf access is. is })
 
 -- ---- what each call writes

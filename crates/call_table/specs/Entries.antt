@@ -1,5 +1,5 @@
 -- Which slots, and which entries of page tables, each call that is done writes.
-use Rattle.std.specs.Prelude.{◌≡◌, ℕ, nat_eq, if◌then◌else◌, List, [], ◌∷◌, map, Option, Some, None}
+use Rattle.std.specs.Prelude.{◌≡◌, ◌≢◌, ℕ, true, nat_eq, if◌then◌else◌, List, [], ◌∷◌, map, Option, Some, None}
 use Rattle.std.proofs.Common.{inr}
 use Rattle.phys_mem.specs.Mem.{Mem}
 use Rattle.page_map.specs.Changes.{table_entry, page_entry}
@@ -7,7 +7,8 @@ use Rattle.cap_table.specs.declared.Cap.{Cap}
 use Rattle.cap_table.specs.declared.Cap.TheVariants as cap
 use Rattle.cap_table.specs.Slots.{cap_at, slot_after, revoked_count, revoked_entries}
 use Rattle.call_table.specs.Domain.{Dom}
-use Rattle.call_table.specs.Claims.{Estate, least_free}
+use Rattle.frame_colours.specs.Colours.{has}
+use Rattle.call_table.specs.Claims.{Estate, IsEstate, frame_of, claim_of, free_frames, least_free}
 use Rattle.call_table.specs.Calls.{entries_in, call, number_made}
 use Rattle.call_table.specs.Laws.{Kept}
 use Rattle.call_table.specs.Meanings.{Makes, argument_a, argument_b, argument_c, IsDone, SlotsStay}
@@ -56,6 +57,12 @@ CopiedLineLaw =
 abbrev pub DeletedSlotLaw : Type 0
 DeletedSlotLaw = (e : Estate) (d x : Dom) (m : Mem) → Makes e d 7 → (call e d m).value ≡ inr x
     → SetsSlot (argument_a d) None d x
+
+-- and the frame of a page or a table that it alone named is free again: an ALLOC may take it
+abbrev pub FreedLaw : Type 0
+FreedLaw = (e : Estate) (d x : Dom) (m : Mem) (a f : ℕ) → IsEstate e → Kept e d m → Makes e d 7
+    → (call e d m).value ≡ inr x → a ≡ argument_a d → frame_of (claim_of (cap_at d.caps a)) ≡ Some f
+    → ((i : ℕ) → i ≢ a → frame_of (claim_of (cap_at d.caps i)) ≢ Some f) → has (free_frames e x.caps) f ≡ true
 
 -- REVOKE empties every other slot that names the same page or line, counts them, and every other slot is as it was
 pub record IsRevokedAll (d x : Dom) : Type 0 where

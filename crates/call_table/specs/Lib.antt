@@ -8,3 +8,5 @@ pub mod Meanings
 pub mod Errors
 pub mod Rights
 pub mod Entries
+pub mod Mail
+pub mod MailLaws

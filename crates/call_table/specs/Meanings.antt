@@ -69,6 +69,17 @@ pub record LeavesMemory (e : Estate) (d : Dom) (m : Mem) : Type 0 where
 abbrev pub MemoryLaw : Type 0
 MemoryLaw = (e : Estate) (d : Dom) (m : Mem) → touches_memory (number_made e d) ≡ false → LeavesMemory e d m
 
+-- ---- a caller that is no longer ready
+
+-- its turn passes to the next ready thread in cyclic order, and stays where none is ready
+pub record PassesTurn (d x : Dom) : Type 0 where
+  pub ready : (t : ℕ) → t < 8 → is_ready (thread_at x.threads t).state ≡ true
+      → is_ready x.threads.current.state ≡ true
+  pub soonest : (t : ℕ) → t < 8 → is_ready (thread_at x.threads t).state ≡ true
+      → between (caller d) (current_number x.threads) ≤ between (caller d) t
+  pub none : ((t : ℕ) → t < 8 → is_ready (thread_at x.threads t).state ≡ false)
+      → current_number x.threads ≡ caller d
+
 -- ---- EXIT and ENDTHREAD: no reply, and the caller stays at its call
 
 -- the domain has exited so, its live threads are ended, and those that were not live are as they were
@@ -88,13 +99,14 @@ ExitLaw = (e : Estate) (d : Dom) (m : Mem) → AreThreads d.threads → Makes e 
 abbrev pub IsLastLive : Dom → Type 0
 IsLastLive d = (t : ℕ) → t < 8 → t ≢ caller d → is_live (thread_at d.threads t).state ≡ false
 
--- the caller is ended; with the last live one the domain has exited, with 0 whatever its registers hold
+-- the caller is ended, and its turn passes on; with the last live one the domain has exited, with 0 whatever its registers hold
 pub record IsThreadEnded (d x : Dom) : Type 0 where
   pub ended : thread_at x.threads (caller d) ≡ in_state Ended d.threads.current
   pub others : OthersStay d x
   pub last : IsLastLive d → x.status ≡ Exited 0
   pub not_last : (t : ℕ) → t < 8 → t ≢ caller d → is_live (thread_at d.threads t).state ≡ true
       → x.status ≡ d.status
+  pub turn : PassesTurn d x
   pub rest : x ≡ record d { status = x.status; threads = x.threads }
 
 abbrev pub EndThreadLaw : Type 0
@@ -138,6 +150,7 @@ pub record IsWaiting (line : ℕ) (d x : Dom) : Type 0 where
   pub waits : thread_at x.threads (caller d)
       ≡ record d.threads.current { state = Waiting line; pc = (d.threads.current.pc + 4) % 2 ^ 32 }
   pub others : OthersStay d x
+  pub turn : PassesTurn d x
   pub rest : x ≡ record d { threads = x.threads }
 
 abbrev pub PollSetLaw : Type 0
@@ -259,3 +272,20 @@ abbrev pub UnmapLaw : Type 0
 UnmapLaw = (e : Estate) (d : Dom) (m : Mem) (frame rights va : ℕ) → Kept e d m → Makes e d 5
     → cap_at d.caps (argument_a d) ≡ Some (cap.Frame frame rights (Some va))
     → IsUnmapped e d (after_call e d m) m (memory_after e d m) frame rights va
+
+-- ---- DELETE of a table, and of a line
+
+-- no access in the table's region succeeds any more, and walks elsewhere are as before
+pub record IsUninstalled (e : Estate) (va : ℕ) (m n : Mem) : Type 0 where
+  pub faults : FaultsIn 4194304 va n e.share.frames e.root
+  pub elsewhere : SameElsewhere 4194304 va m n e.share.frames e.root
+
+abbrev pub DeletedTableLaw : Type 0
+DeletedTableLaw = (e : Estate) (d x : Dom) (m : Mem) (frame va : ℕ) → Kept e d m → Makes e d 7
+    → (call e d m).value ≡ inr x → cap_at d.caps (argument_a d) ≡ Some (cap.Table frame (Some va))
+    → IsUninstalled e va m (memory_after e d m)
+
+-- of a line, memory is as it was
+abbrev pub DeletedLineLaw : Type 0
+DeletedLineLaw = (e : Estate) (d x : Dom) (m : Mem) (line : ℕ) → Makes e d 7 → (call e d m).value ≡ inr x
+    → cap_at d.caps (argument_a d) ≡ Some (cap.Irq line) → memory_after e d m ≡ m

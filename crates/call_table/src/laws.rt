@@ -4,10 +4,12 @@ ghost use Rattle.call_table.specs.Laws.{CallsKeepLaw, RefusalLaw, LeftOutLaw, Co
 ghost use Rattle.call_table.specs.ThreadLaws.{CallTurnLaw, DeliveryTurnLaw, CallWakesLaw, DeliveryWakesLaw};
 ghost use Rattle.call_table.specs.ThreadLaws.{SignalWakesLaw, SignalSetsLaw, DeliveryCountLaw, CallCountLaw};
 ghost use Rattle.call_table.specs.Meanings.{ExitLaw, EndThreadLaw, SpawnLaw, NoThreadLaw, YieldLaw, PutLaw, OutputFullLaw};
-ghost use Rattle.call_table.specs.Meanings.{PollSetLaw, PollClearLaw, WaitSetLaw, WaitClearLaw, SignalLaw, TableLaw, UnmapLaw, MemoryLaw};
+ghost use Rattle.call_table.specs.Meanings.{PollSetLaw, PollClearLaw, WaitSetLaw, WaitClearLaw, SignalLaw, TableLaw, UnmapLaw, DeletedTableLaw, DeletedLineLaw, MemoryLaw};
 ghost use Rattle.call_table.specs.Errors.{AscendLaw, FirstErrorLaw, NoErrorLaw};
 ghost use Rattle.call_table.specs.Rights.{NothingMappedLaw, CallsWithinLaw, StoresWithinLaw, WalksWithinLaw};
-ghost use Rattle.call_table.specs.Entries.{AllocatedSlotLaw, MappedSlotLaw, CopiedPageLaw, CopiedLineLaw, DeletedSlotLaw, RevokedSlotsLaw, EntriesLaw};
+ghost use Rattle.call_table.specs.Entries.{AllocatedSlotLaw, MappedSlotLaw, CopiedPageLaw, CopiedLineLaw, DeletedSlotLaw, FreedLaw, RevokedSlotsLaw, EntriesLaw};
+ghost use Rattle.call_table.specs.MailLaws.{OnMemoryLaw, OnBoxesLaw, StorageKeptLaw, PairsStayLaw, TurnedDownLaw, UnmadeLaw, WithinOwnLaw};
+ghost use Rattle.call_table.specs.MailLaws.{StorageEmptiesLaw, StorageWalksLaw, AllowedWorkLaw, SendMeansLaw, ReceiveMeansLaw};
 ghost use Rattle.call_table.specs.Laws.{EmptiesLaw, WalksStayLaw, OperationLaw, WorkLaw, PermittedLaw};
 
 /// Every call keeps the facts of a domain's frames and page tables.
@@ -100,11 +102,13 @@ pub fn output()
     ensures full { OutputFullLaw }
 {}
 
-/// What TABLE and UNMAP mean for page tables, and that the calls of threads,
-/// lines and output leave memory.
+/// What TABLE, UNMAP and DELETE of a table mean for page tables, and that the calls of
+/// threads, lines and output leave memory, as DELETE of a line does.
 pub fn memory_calls()
     ensures table { TableLaw }
     ensures unmap { UnmapLaw }
+    ensures deleted_table { DeletedTableLaw }
+    ensures deleted_line { DeletedLineLaw }
     ensures others { MemoryLaw }
 {}
 
@@ -127,14 +131,37 @@ pub fn rights()
     ensures walks { WalksWithinLaw }
 {}
 
-/// Which slots each call that is done sets, and which entries of page tables it
-/// writes, in their order.
+/// Which slots each call that is done sets, which frame it frees, and which entries of
+/// page tables it writes, in their order.
 pub fn changes()
     ensures allocated { AllocatedSlotLaw }
     ensures mapped { MappedSlotLaw }
     ensures copied_page { CopiedPageLaw }
     ensures copied_line { CopiedLineLaw }
     ensures deleted { DeletedSlotLaw }
+    ensures freed { FreedLaw }
     ensures revoked { RevokedSlotsLaw }
     ensures entries { EntriesLaw }
+{}
+
+/// A call on mailboxes leaves memory, and each other call leaves the boxes. Whichever it
+/// is, a refusal changes nothing but the reply; and it reads and changes the domain's own
+/// frames and its own side of the boxes alone.
+pub fn all_calls()
+    ensures on_memory { OnMemoryLaw }
+    ensures on_boxes { OnBoxesLaw }
+    ensures kept { StorageKeptLaw }
+    ensures pairs { PairsStayLaw }
+    ensures refused { TurnedDownLaw }
+    ensures left_out { UnmadeLaw }
+    ensures confined { WithinOwnLaw }
+    ensures empties { StorageEmptiesLaw }
+    ensures walks { StorageWalksLaw }
+    ensures work { AllowedWorkLaw }
+{}
+
+/// What SEND and RECV mean, by what is in the box.
+pub fn mail_calls()
+    ensures send { SendMeansLaw }
+    ensures receive { ReceiveMeansLaw }
 {}

@@ -2,5 +2,4 @@ pub mod CapTexts
 pub mod Parts
 pub mod Slots
 pub mod Shares
-pub mod CallBits
 pub mod SegmentCases

@@ -12,7 +12,7 @@ use image_record::{Raw, ReadRefusal, Refusal, names};
 use kernel_clone::{CALLS_END, EVERY_CALL, is_call};
 use std::alloc::Global;
 
-/// The number that a refusal names: that of the last call.
+/// The number that a refusal names: that of the last call that is on no mailboxes.
 const LAST_CALL: i64 = 14;
 
 /// Whether a number that an image says is a call's.

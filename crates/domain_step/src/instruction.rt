@@ -147,7 +147,7 @@ fn answer(memory: &mut PhysMem, domain: &mut Domain) -> Outcome
     let regs = &domain.threads.active.regs;
     let number = regs.get(17);
     let args = [regs.get(10), regs.get(11), regs.get(12)];
-    kernel_call::call(domain, memory, number, args)
+    kernel_call::call_on_memory(domain, memory, number, args)
 }
 
 /// The kernel call that the domain makes. Its work is charged, and then the

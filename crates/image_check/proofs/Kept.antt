@@ -23,7 +23,7 @@ use Rattle.schedule_check.proofs.Counts.{Within, counted, at_most}
 use Rattle.hardware_check.specs.Hardware.{Hardware, hardware_of}
 use Rattle.sched_table.specs.declared.schedule.Entry.{Entry}
 use Rattle.schedule_check.specs.Schedule.{entry_of}
-use Rattle.image_check.specs.Public.{Public, public_of}
+use Rattle.image_check.specs.Public.{public_of}
 use Rattle.image_check.specs.Checking.{rules_before_pads, rules_after_pads, ended_by, followed_by, broken_of, broken, broken_but_pads, broken_before_pads}
 use Rattle.image_check.specs.Laws.{Keeps, KeepsButPads, KeepsBeforePads, HasPadsItem, AcceptanceLaw, ButPadsLaw, PadsLaw, ExtensionsLaw}
 use Rattle.image_record.proofs.FirstCases.{or_first}

@@ -10,6 +10,9 @@ use Rattle.tp_base.specs.Rights.{rights_with, are_good}
 use Rattle.image_record.specs.Record.{Raw, RawDomain, RawSegment, IsRawSegment, InKeyRanges, raw_domain, no_raw_domain, no_raw_segment}
 use Rattle.image_record.specs.declared.refusal.Refusal.{Refusal}
 use Rattle.image_record.specs.Cases.{first_in, refusal}
+use Rattle.kernel_clone.specs.Permissions.{every_call}
+use Rattle.kernel_clone.proofs.CallLaws.{mail_within}
+use Rattle.domain_check.specs.Calls.{calls_in}
 use Rattle.domain_check.specs.declared.capabilities.InitialCap.TheVariants.{None as NoCap, Page, Irq}
 use Rattle.domain_check.specs.Segments.{k12, k12_domain, segment_case, entry_case, bytes_case, bytes_in, bytes_or_none, has_read, has_write, has_execute, rights_of, is_rights, share_page, k12_refusal}
 use Rattle.image_check.specs.Pages.{has_page}
@@ -238,7 +241,7 @@ own_sound i d ranges rules l =
       moments = moments_sound o irqs;
       early = early o irqs;
       own_lines = own_line o irqs;
-      listed = λ n may. may;
+      listed = λ n may. mail_within (calls_in o.calls) n may;
     }
 
 no_own_sound : IsOwn no_own
@@ -257,7 +260,7 @@ no_own_sound = record {
   moments = record { lines = λ k x e. absurd (no_moment k x e); ascend = λ j k x y less e. absurd (no_moment j x e) };
   early = λ k x e. absurd (no_moment k x e);
   own_lines = λ k x e. absurd (no_moment k x e);
-  listed = λ n may. may;
+  listed = λ n may. mail_within every_call n may;
 }
   where
     no_page : (n : ℕ) → NoCap ≢ Page n

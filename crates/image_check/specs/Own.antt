@@ -12,7 +12,7 @@ unfoldable pub use Rattle.domain_check.specs.Segments.{segment_of}
 use Rattle.domain_check.specs.Capabilities.{cap_of, IsSmallCap}
 use Rattle.schedule_check.specs.Interrupts.{moment_of}
 use Rattle.domain_check.specs.Calls.{calls_in}
-use Rattle.kernel_clone.specs.Permissions.{every_call}
+use Rattle.kernel_clone.specs.Permissions.{every_call, without_mail}
 
 pub record Own : Type 0 where
   pub number : ℕ  -- its place in the image
@@ -24,7 +24,7 @@ pub record Own : Type 0 where
   pub lines : List ℕ  -- its interrupt lines
   pub moments : List Moment  -- when they interrupt it
   pub calls : ℕ  -- those that it lists, a bit each: its pads are bound by them
-  pub makes : ℕ  -- those that it may make in this image, a bit each
+  pub makes : ℕ  -- those that it may make in this image, which has no mailboxes, a bit each
 
 -- the numbers of what its slots name fit those of the code
 pub record IsSmallOwn (o : RawDomain) : Type 0 where
@@ -41,7 +41,7 @@ own_from n o = record {
   lines = map natural_of o.lines;
   moments = map moment_of o.moments;
   calls = calls_in o.calls;
-  makes = calls_in o.calls;
+  makes = without_mail (calls_in o.calls);
 }
 
 -- in their order, of which the first has this number
@@ -63,7 +63,7 @@ no_own = record {
   lines = [];
   moments = [];
   calls = every_call;
-  makes = every_call;
+  makes = without_mail every_call;
 }
 
 abbrev pub own_at : List Own → ℕ → Own

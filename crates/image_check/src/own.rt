@@ -13,13 +13,15 @@ use crate::CheckRefusal;
 use domain_check::{InitialCap, Named, Segment, caps_from};
 use image_record::{Raw, RawDomain};
 use irq_partition::Moment;
+use kernel_clone::without_mail;
 use std::alloc::Global;
+use tp_base::DomainNo;
 
 /// What is one domain's own.
 #[derive(Drop)]
 pub struct Own {
-    /// Its place in the image, below 32.
-    pub number: u8,
+    /// Its place in the image.
+    pub number: DomainNo,
     pub name: String,
     /// The colours of its frames.
     pub colours: Vec<u8>,
@@ -35,7 +37,7 @@ pub struct Own {
     /// The calls that it lists, a bit each: bit n is that of call n. Its pads are
     /// bound by them.
     pub calls: u32,
-    /// The calls that it may make in this image, a bit each.
+    /// The calls that it may make in this image, a bit each: none on mailboxes, as it has none.
     pub makes: u32,
 }
 
@@ -88,7 +90,7 @@ impl DomainParts {
 #[tactic(auto, unfolding(crate::specs::Own::own_from))]
 fn own_from(
     alloc: Global,
-    number: u8,
+    number: DomainNo,
     domain: &RawDomain,
     part: DomainPart,
 ) -> Result<Own, CheckRefusal>
@@ -108,7 +110,7 @@ fn own_from(
         lines: part.lines,
         moments: part.moments,
         calls: part.calls,
-        makes: part.calls,
+        makes: without_mail(part.calls),
     })
 }
 
@@ -125,7 +127,12 @@ fn owns_in(
 {
     let mut owns = Vec::new(alloc);
     for (number, domain) in domains.iter().enumerate() {
-        owns.push(own_from(alloc, number as u8, domain, parts.take_first())?)?;
+        owns.push(own_from(
+            alloc,
+            DomainNo::new(number as u8),
+            domain,
+            parts.take_first(),
+        )?)?;
     }
     Ok(owns)
 }

@@ -337,7 +337,8 @@ fn is_blue(rt: &impl Abort, own: &Own) {
     is_equal(rt, "lines", own.lines.as_slice(), [7, 3].as_slice());
     let moments = [Moment { at: 9000, line: 3 }, Moment { at: 9000, line: 7 }];
     is_equal(rt, "moments", own.moments.as_slice(), moments.as_slice());
-    is_equal(rt, "calls", own.calls, 0x7fff);
+    is_equal(rt, "calls", own.calls, 0x18_7fff);
+    is_equal(rt, "calls made", own.makes, 0x7fff);
 }
 
 fn are_segments(rt: &impl Abort, segments: &[Segment]) {

@@ -14,3 +14,4 @@ pub mod DropsDelete
 pub mod FreesRevoked
 pub mod DropsRevoke
 pub mod TiesThreads
+pub mod TiesMail

@@ -69,6 +69,8 @@ own_number call.Signal = refl
 own_number call.Spawn = refl
 own_number call.Yield = refl
 own_number call.EndThread = refl
+own_number call.Send = refl
+own_number call.Receive = refl
 
 pub no_work_bounded : (c : Call) (w : WorkDone) → w ≡ nothing (call_number c) → IsCallWork w
 no_work_bounded c w is = subst IsCallWork (sym is) (record { call = own_number c; zeroes = λ f some. absurd (cc some); few = omega arith })

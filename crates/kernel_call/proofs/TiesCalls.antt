@@ -64,6 +64,8 @@ last_on_memory call.Signal on p a t m u k d = absurd (cc on)
 last_on_memory call.Spawn on p a t m u k d = absurd (cc on)
 last_on_memory call.Yield on p a t m u k d = absurd (cc on)
 last_on_memory call.EndThread on p a t m u k d = absurd (cc on)
+last_on_memory call.Send on p a t m u k d = absurd (cc on)
+last_on_memory call.Receive on p a t m u k d = absurd (cc on)
 
 -- the operation of a call's number is its own, and that of any other number one of a bad call
 pub own_op : (c : Call) → op_of (call_number c) ≡ call_number c
@@ -82,6 +84,8 @@ own_op call.Signal = refl
 own_op call.Spawn = refl
 own_op call.Yield = refl
 own_op call.EndThread = refl
+own_op call.Send = refl
+own_op call.Receive = refl
 
 pub bad_op : (number : ℕ) → is_call number ≡ false → op_of number ≡ bad_call_op
 bad_op number none = ap (λ (b : Bool). if b then number else bad_call_op) none

@@ -16,7 +16,7 @@ use Rattle.call_table.specs.Domain.{Dom, reply_past, recorded, replied, done, re
 use Rattle.call_table.specs.Claims.{Estate}
 use Rattle.kernel_clone.specs.Footprints.{call_number}
 use Rattle.kernel_clone.specs.declared.operation.Call.{Call}
-use Rattle.kernel_clone.specs.Permissions.{is_call, is_of_memory}
+use Rattle.kernel_clone.specs.Permissions.{is_mail, is_call, is_of_memory}
 use Rattle.kernel_clone.proofs.CallLaws.{differ}
 use Rattle.kernel_clone.specs.declared.operation.Call.TheVariants as call
 use Rattle.call_table.specs.Calls.{Note, Act, filled, line_in, line_at, bit_value, poll, waited, wait, signal, spawn, call_of}
@@ -248,25 +248,49 @@ answered_by number k e d a b c m before reply new r is same h =
     subst (λ (n : ℕ). IsAnswered m before reply new (call_of e d n a b c m)) (sym is)
     (subst (IsAnswered m before reply new) (sym same) h)
 
--- the last call that leaves memory alone, where it is none of the others
+-- a call that leaves memory alone, where it is none of the others, is on mailboxes
 pub last_without_memory : (c : Call) → is_of_memory (call_number c) ≡ false → c ≢ call.Exit → c ≢ call.Poll
     → c ≢ call.Wait → c ≢ call.Signal
-    → c ≢ call.Spawn → c ≢ call.Yield → call_number c ≡ 14
-last_without_memory call.Exit other x p w s n y = absurd (x refl)
-last_without_memory call.Put other x p w s n y = absurd (cc other)
-last_without_memory call.Alloc other x p w s n y = absurd (cc other)
-last_without_memory call.Table other x p w s n y = absurd (cc other)
-last_without_memory call.Map other x p w s n y = absurd (cc other)
-last_without_memory call.Unmap other x p w s n y = absurd (cc other)
-last_without_memory call.Copy other x p w s n y = absurd (cc other)
-last_without_memory call.Delete other x p w s n y = absurd (cc other)
-last_without_memory call.Revoke other x p w s n y = absurd (cc other)
-last_without_memory call.Poll other x p w s n y = absurd (p refl)
-last_without_memory call.Wait other x p w s n y = absurd (w refl)
-last_without_memory call.Signal other x p w s n y = absurd (s refl)
-last_without_memory call.Spawn other x p w s n y = absurd (n refl)
-last_without_memory call.Yield other x p w s n y = absurd (y refl)
-last_without_memory call.EndThread other x p w s n y = refl
+    → c ≢ call.Spawn → c ≢ call.Yield → c ≢ call.EndThread → is_mail (call_number c) ≡ true
+last_without_memory call.Exit other x p w s n y e = absurd (x refl)
+last_without_memory call.Put other x p w s n y e = absurd (cc other)
+last_without_memory call.Alloc other x p w s n y e = absurd (cc other)
+last_without_memory call.Table other x p w s n y e = absurd (cc other)
+last_without_memory call.Map other x p w s n y e = absurd (cc other)
+last_without_memory call.Unmap other x p w s n y e = absurd (cc other)
+last_without_memory call.Copy other x p w s n y e = absurd (cc other)
+last_without_memory call.Delete other x p w s n y e = absurd (cc other)
+last_without_memory call.Revoke other x p w s n y e = absurd (cc other)
+last_without_memory call.Poll other x p w s n y e = absurd (p refl)
+last_without_memory call.Wait other x p w s n y e = absurd (w refl)
+last_without_memory call.Signal other x p w s n y e = absurd (s refl)
+last_without_memory call.Spawn other x p w s n y e = absurd (n refl)
+last_without_memory call.Yield other x p w s n y e = absurd (y refl)
+last_without_memory call.EndThread other x p w s n y e = absurd (e refl)
+last_without_memory call.Send other x p w s n y e = refl
+last_without_memory call.Receive other x p w s n y e = refl
+
+-- on memory such a call is none
+pub no_memory_call : (c : Call) → is_mail (call_number c) ≡ true → (e : Estate) (d : Dom) (m : Mem) (a b k : ℕ)
+    → call_of e d (call_number c) a b k m ≡ reads m (inl (refused 1 d))
+unfolding call_of stop
+no_memory_call call.Send is e d m a b k = refl
+no_memory_call call.Receive is e d m a b k = refl
+no_memory_call call.Exit is e d m a b k = absurd (cc is)
+no_memory_call call.Put is e d m a b k = absurd (cc is)
+no_memory_call call.Alloc is e d m a b k = absurd (cc is)
+no_memory_call call.Table is e d m a b k = absurd (cc is)
+no_memory_call call.Map is e d m a b k = absurd (cc is)
+no_memory_call call.Unmap is e d m a b k = absurd (cc is)
+no_memory_call call.Copy is e d m a b k = absurd (cc is)
+no_memory_call call.Delete is e d m a b k = absurd (cc is)
+no_memory_call call.Revoke is e d m a b k = absurd (cc is)
+no_memory_call call.Poll is e d m a b k = absurd (cc is)
+no_memory_call call.Wait is e d m a b k = absurd (cc is)
+no_memory_call call.Signal is e d m a b k = absurd (cc is)
+no_memory_call call.Spawn is e d m a b k = absurd (cc is)
+no_memory_call call.Yield is e d m a b k = absurd (cc is)
+no_memory_call call.EndThread is e d m a b k = absurd (cc is)
 
 pub bad_call : (e : Estate) (d : Dom) (m : Mem) (number a b c : ℕ) → is_call number ≡ false
     → call_of e d number a b c m ≡ reads m (inl (refused 1 d))

@@ -63,7 +63,7 @@ pub record KeepsRest (old new : Domain) : Type 0 where
   pub readings : new.readings ≡ old.readings
   pub replies : new.replies ≡ old.replies
 
--- 1 BadCall to 13 NoThread
+-- 1 BadCall to 16 NoMail
 abbrev pub code_of : CallError → ℕ
 code_of error.BadCall = 1
 code_of error.BadSlot = 2
@@ -78,6 +78,9 @@ code_of error.NoFrame = 10
 code_of error.OutputFull = 11
 code_of error.InUse = 12
 code_of error.NoThread = 13
+code_of error.NoBox = 14
+code_of error.BoxFull = 15
+code_of error.NoMail = 16
 
 -- a refusal of this domain, or a value
 abbrev pub end_of : {A : Type 0} → Dom → Result A CallError → Dom ⊎ A

@@ -5,3 +5,4 @@ pub mod Facts
 pub mod Entries
 pub mod Calls
 pub mod Threads
+pub mod Mailboxes

@@ -2,15 +2,17 @@
 ghost use Rattle.std.specs.Prelude.{◌≡◌, ◌≢◌, ◌^◌, ◌<◌, ◌≤◌, not, true, false, IfErr, IfNone, IfSome, slice_index};
 ghost use Rattle.kernel_clone.specs.Footprints.{call_number};
 ghost use Rattle.kernel_clone.specs.Models.{work_model, IsWork};
-ghost use Rattle.kernel_clone.specs.Permissions.{is_call, is_of_memory, may_make, permitted as spec_permitted};
+ghost use Rattle.kernel_clone.specs.Permissions.{is_call, is_mail, is_of_memory, may_make, permitted as spec_permitted};
 ghost use Rattle.pad_bound.specs.Worst.{IsCallWork, IsPermitted};
 ghost use Rattle.thread_set.specs.Threads.{is_ready};
 ghost use Rattle.call_table.specs.Calls as spec;
 ghost use Rattle.kernel_call.specs.Facts.{Valid, Does, KeepsRest, nothing, with_work};
 ghost use Rattle.kernel_call.specs.Calls.{Calls, KeepsParts, IsRefused};
+ghost use Rattle.kernel_call.specs.Mailboxes.{CallsIn};
 
 use crate::error::CallError;
 use crate::frames::{alloc, delete, revoke};
+use crate::mailboxes::mail_call;
 use crate::outcome::{Outcome, has_places, no_work, plain};
 use crate::reply::reply_to;
 use crate::slots::copy;
@@ -18,7 +20,8 @@ use crate::tables::{install, map_page, unmap};
 use crate::threads::call_without_memory;
 use crate::{Domain, PRINTED};
 use call_table::Reply;
-use kernel_clone::{BAD_CALL, Call, Work};
+use kernel_clone::{BAD_CALL, Call, Work, has_call, is_mail};
+use mail_slots::Mail;
 use phys_mem::PhysMem;
 
 // PUT: prints the low byte of `a`.
@@ -137,9 +140,15 @@ fn permitted(calls: u32, number: u32) -> Option<Call>
 }
 
 /// The kernel call with this number and these arguments, of the domain's
-/// current thread, which must be ready. A number of no call, or of a call that the
-/// domain may not make, is a bad call. Takes no memory.
-pub fn call(domain: &mut Domain, memory: &mut PhysMem, number: u32, args: [u32; 3]) -> Outcome
+/// current thread, which must be ready, where there are no mailboxes. A number of no
+/// call, or of a call that the domain may not make, is a bad call, and so is one on
+/// mailboxes. Takes no memory.
+pub fn call_on_memory(
+    domain: &mut Domain,
+    memory: &mut PhysMem,
+    number: u32,
+    args: [u32; 3],
+) -> Outcome
     requires valid { Valid memory.old domain.old }
     requires ready { is_ready domain.old.threads.active.state ≡ true }
     requires replies { domain.old.replies.count < 2 ^ 63 }
@@ -164,4 +173,47 @@ pub fn call(domain: &mut Domain, memory: &mut PhysMem, number: u32, args: [u32; 
             work: plain(BAD_CALL),
         },
     }
+}
+
+// Whether it is a call on mailboxes that is made, and the domain may make it.
+fn is_mail_made(calls: u32, number: u32) -> bool
+    ensures value { result ≡ is_mail (spec_permitted calls number) }
+    ensures number { result ≡ true → spec_permitted calls number ≡ number }
+    ensures allowed { result ≡ true → may_make calls number ≡ true }
+{
+    is_mail(number) && has_call(calls, number)
+}
+
+/// The kernel call with this number and these arguments, of the domain's current
+/// thread, which must be ready. A number of no call, or of a call that the domain may
+/// not make, is a bad call. Takes no memory.
+pub fn call(
+    domain: &mut Domain,
+    memory: &mut PhysMem,
+    number: u32,
+    args: [u32; 3],
+    mail: &mut Mail,
+) -> Outcome
+    requires valid { Valid memory.old domain.old }
+    requires ready { is_ready domain.old.threads.active.state ≡ true }
+    requires replies { domain.old.replies.count < 2 ^ 63 }
+    ensures calls { CallsIn (spec_permitted domain.old.calls number) args result
+        memory.old mail.old domain.old memory.new mail.new domain.new }
+    ensures valid { Valid memory.new domain.new }
+    ensures keeps { KeepsParts domain.old domain.new }
+    ensures frames { memory.new.frames ≡ memory.old.frames }
+    ensures refused { IfSome result.reply (λ r. r.code ≢ 0 → IsRefused domain.old domain.new r) }
+    ensures memory { IfSome result.reply (λ r. r.code ≢ 0 → memory.new ≡ memory.old) }
+    ensures mail { IfSome result.reply (λ r. r.code ≢ 0 → mail.new ≡ mail.old) }
+    ensures operation { result.work.op ≡ spec.op_of (spec_permitted domain.old.calls number) }
+    ensures permitted { IsPermitted domain.old.calls (work_model result.work) }
+    ensures work { IsCallWork (work_model result.work) }
+    ensures in_memory { memory.old.frames ≤ 2 ^ 15 → IsWork result.work }
+    ensures buffer { spec.empties_buffer result.work.op result.reply
+        ≡ spec.empties_buffer (spec_permitted domain.old.calls number) result.reply }
+{
+    if is_mail_made(domain.calls, number) {
+        return mail_call(domain, memory, number, args, mail);
+    }
+    call_on_memory(domain, memory, number, args)
 }

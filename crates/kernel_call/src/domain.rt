@@ -13,7 +13,7 @@ use kernel_clone::CloneLayout;
 use page_map::PageMap;
 use std::alloc::Global;
 use thread_set::ThreadSet;
-use tp_base::Memory;
+use tp_base::{DomainNo, Memory};
 
 /// The most bytes that a domain prints.
 pub const PRINTED: usize = 4096;
@@ -39,7 +39,7 @@ pub struct Domain {
     /// The calls that it may make, a bit each: bit n is that of call n.
     pub calls: u32,
     /// Its number in the image.
-    pub number: u8,
+    pub number: DomainNo,
     /// Instructions.
     pub retired: u64,
     /// Of the counters.
@@ -64,7 +64,7 @@ pub struct Beginning {
     /// The calls that it may make, a bit each.
     pub calls: u32,
     /// Its number in the image.
-    pub number: u8,
+    pub number: DomainNo,
 }
 
 impl Domain {

@@ -2,6 +2,7 @@
 ghost use Rattle.std.specs.Prelude.{◌≡◌};
 
 use call_table::Reply;
+use mail_slots::MailRefusal;
 use page_map::MapRefusal;
 use thiserror::Error;
 
@@ -34,13 +35,19 @@ pub enum CallError {
     InUse,
     #[error("eight threads are live")]
     NoThread,
+    #[error("no mailbox of this number leads from the domain, or to it")]
+    NoBox,
+    #[error("sixteen words wait to be sent")]
+    BoxFull,
+    #[error("no word is left in the mailbox")]
+    NoMail,
 }
 
 impl CallError {
     ghost use Rattle.std.specs.Prelude.{◌≡◌};
     ghost use Rattle.kernel_call.specs.Facts.{code_of};
 
-    /// The code of its reply, 1 to 13.
+    /// The code of its reply, 1 to 16.
     pub fn code(self) -> u32
         ensures value { result ≡ code_of self }
     {
@@ -58,6 +65,9 @@ impl CallError {
             CallError::OutputFull => 11,
             CallError::InUse => 12,
             CallError::NoThread => 13,
+            CallError::NoBox => 14,
+            CallError::BoxFull => 15,
+            CallError::NoMail => 16,
         }
     }
 
@@ -83,5 +93,17 @@ pub fn refusal_error(refusal: MapRefusal) -> CallError
     }
 }
 
+/// The same refusal of a call on mailboxes.
+pub fn mail_error(refusal: MailRefusal) -> CallError
+    ensures value { code_of result ≡ spec_mail_error refusal }
+{
+    match refusal {
+        MailRefusal::NoBox => CallError::NoBox,
+        MailRefusal::BoxFull => CallError::BoxFull,
+        MailRefusal::NoMail => CallError::NoMail,
+    }
+}
+
 ghost use Rattle.call_table.specs.Calls.{error_of};
+ghost use Rattle.call_table.specs.Mail.{mail_error as spec_mail_error};
 ghost use Rattle.kernel_call.specs.Facts.{code_of};

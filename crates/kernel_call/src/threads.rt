@@ -24,7 +24,7 @@ use call_table::{DomainStatus, Reply};
 use kernel_clone::{Call, DELIVERY, Work};
 
 /// A call that leaves memory alone: EXIT, and those on interrupt lines and on
-/// threads.
+/// threads. Those on mailboxes are none here.
 pub fn call_without_memory(domain: &mut Domain, call: Call, args: [u32; 3]) -> Option<Reply>
     requires ready { is_ready domain.old.threads.active.state ≡ true }
     requires replies { domain.old.replies.count < 2 ^ 63 }
@@ -46,7 +46,8 @@ pub fn call_without_memory(domain: &mut Domain, call: Call, args: [u32; 3]) -> O
         Call::Signal => signal(domain, a),
         Call::Spawn => spawn(domain, a, b),
         Call::Yield => yield_turn(domain),
-        _ => end_thread(domain),
+        Call::EndThread => end_thread(domain),
+        _ => Some(reply_to(domain, CallError::BadCall.reply())),
     }
 }
 

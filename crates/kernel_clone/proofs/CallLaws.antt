@@ -1,11 +1,11 @@
 -- Which calls may be made, bit by bit.
-use Rattle.std.proofs.Common.{◌≡◌, ◌∙◌, ◌<◌, ◌≤◌, ◌+◌, ◌-◌, ◌*◌, ◌/◌, ◌%◌, ◌^◌, ℕ, zero, suc, Bool, true, false, ap, sym, subst, arith, lit≤, inl, inr, ne_eqb}
-use Rattle.std.specs.Prelude.{nat_eq, not, ◌&&◌, if◌then◌else◌}
+use Rattle.std.proofs.Common.{◌≡◌, ◌∙◌, ◌<◌, ◌≤◌, ◌+◌, ◌-◌, ◌*◌, ◌/◌, ◌%◌, ◌^◌, ℕ, zero, suc, Bool, true, false, refl, ap, sym, subst, arith, add-one, lit≤, inl, inr, ne_eqb}
+use Rattle.std.specs.Prelude.{nat_eq, not, ◌&&◌, ◌||◌, if◌then◌else◌}
 use Rattle.std.proofs.lemmas.Bool.{cases_lt, lt-leb}
 use Rattle.std.proofs.lemmas.Nat.{pow-add, pow_pos, div-mul-add}
 use Rattle.std.proofs.Math.Nat.{pow-suc, add-mul-div_left, div-eq_of_lt}
 use Rattle.std.proofs.Math.Pow.{pow_mono}
-use Rattle.kernel_clone.specs.Permissions.{is_call, calls_end, may_make, calls_below, EveryCallLaw, CallsLaw}
+use Rattle.kernel_clone.specs.Permissions.{is_mail, is_call, calls_end, may_make, calls_below, without_mail, EveryCallLaw, CallsLaw, WithoutMailLaw}
 
 pub few_below : (test : ℕ → Bool) (n : ℕ) → calls_below test n < 2 ^ n
 unfolding calls_below
@@ -16,6 +16,20 @@ few_below test (suc n) =
     let one : (if test n then 2 ^ n else 0) ≤ 2 ^ n =
     elim (test n) as (λ b. (if b then 2 ^ n else 0) ≤ 2 ^ n) [ true ↦ omega arith | false ↦ omega arith ] in
     omega (arith, below, double, one)
+
+-- with one number more
+pub bits_more : (test : ℕ → Bool) (n : ℕ)
+    → calls_below test (n + 1) ≡ calls_below test n + (if test n then 2 ^ n else 0)
+unfolding calls_below
+bits_more test n = ap (calls_below test) (add-one n)
+
+pub bits_fit : (test : ℕ → Bool) (n calls bit : ℕ) → n < calls_end → calls ≡ calls_below test n
+    → bit ≡ (if test n then 2 ^ n else 0) → calls + bit < 2 ^ 32
+bits_fit test n calls bit l e f =
+    let more = bits_more test n in
+    let few = few_below test (n + 1) in
+    let most = pow_mono {i = n + 1} {j = calls_end} (omega (arith, l)) in
+    omega (arith, e, f, more, few, most)
 
 -- a bit above number n's doesn't matter to it
 bit_above : (low n k : ℕ) (b : Bool) → n < k → may_make (low + (if b then 2 ^ k else 0)) n ≡ may_make low n
@@ -68,7 +82,11 @@ within test m n none = elim (cases_lt n m) [
 
 -- what is past the end is no call
 no_call : (n : ℕ) → calls_end ≤ n → is_call n ≡ false
-no_call n past = lt-leb n 14 (omega (arith, past))
+no_call n past =
+    let low = lt-leb n 14 (omega (arith, past)) in
+    let no_send = ne_eqb n 19 (λ e. omega (arith, e, past)) in
+    let no_receive = ne_eqb n 20 (λ e. omega (arith, e, past)) in
+    ap (λ (b : Bool). b || is_mail n) low ∙ (ap (λ (b : Bool). b || nat_eq n 20) no_send ∙ no_receive)
 
 pub calls_are : CallsLaw
 calls_are test n =
@@ -76,6 +94,18 @@ calls_are test n =
 
 pub every_may : EveryCallLaw
 every_may n = within is_call calls_end n (no_call n)
+
+pub without_mail_are : WithoutMailLaw
+without_mail_are calls n = calls_are (λ k. may_make calls k && not (is_mail k)) n
+
+-- none may be made that might not be
+pub mail_within : (calls n : ℕ) → may_make (without_mail calls) n ≡ true → may_make calls n ≡ true
+mail_within calls n may = by_tests (is_call n) (may_make calls n) (sym (without_mail_are calls n) ∙ may)
+  where
+    by_tests : (b m : Bool) → (b && (m && not (is_mail n))) ≡ true → m ≡ true
+    by_tests b true all = refl
+    by_tests true false all = absurd (cc all)
+    by_tests false false all = absurd (cc all)
 
 -- of two numbers of which one is a call's, one is not the other
 pub differ : (m n : ℕ) (b : Bool) → is_call m ≡ b → is_call n ≡ not b → nat_eq m n ≡ false

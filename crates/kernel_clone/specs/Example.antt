@@ -1,7 +1,7 @@
 -- Worked footprints, counted out by hand; and which calls may be made.
-use Rattle.std.specs.Prelude.{◌≡◌, ℕ, ◌-◌, nat_le, nat_lt, true, false, List, [], ◌∷◌, Option, Some, None, refl}
+use Rattle.std.specs.Prelude.{◌≡◌, ℕ, ◌+◌, ◌-◌, ◌^◌, ◌&&◌, nat_le, nat_lt, true, false, List, [], ◌∷◌, Option, Some, None, refl}
 use Rattle.kernel_clone.specs.Footprints.{Layout, WorkDone, LineTouch, touch_of, touches, text_touches, stack_touches, data_touches, shared_touches, zeroed_touches, entry_touches}
-use Rattle.kernel_clone.specs.Permissions.{is_call, calls_end, may_make, every_call, permitted, calls_below, calls_of}
+use Rattle.kernel_clone.specs.Permissions.{is_call, calls_end, may_make, every_call, permitted, calls_below, calls_of, without_mail}
 use Rattle.kernel_clone.specs.declared.Kind.TheVariants.{Fetch, Load, Store}
 
 -- text in frames 1 and 3, stack in 5, data in 7; two colours
@@ -102,7 +102,7 @@ no_call : permitted 32768 0 ≡ 18
 unfolding may_make
 no_call = refl
 
-every_call_is : every_call ≡ 32767
+every_call_is : every_call ≡ 1605631
 unfolding calls_below
 every_call_is = refl
 
@@ -114,7 +114,21 @@ two_lowest : calls_of (λ n. nat_lt n 2) ≡ 3
 unfolding calls_below
 two_lowest = refl
 
+-- bits 15 to 18 are no call's
+between : calls_of (λ n. nat_le 15 n && nat_lt n 19) ≡ 0
+unfolding calls_below
+between = refl
+
+-- without 19 and 20
+on_no_mailboxes : without_mail every_call ≡ 32767
+unfolding calls_below may_make
+on_no_mailboxes = refl
+
+sends_alone : without_mail (2 ^ 19 + 1) ≡ 1
+unfolding calls_below may_make
+sends_alone = refl
+
 -- a test of more numbers than there are calls
-highest : calls_of (λ n. nat_le 13 n) ≡ 24576
+highest : calls_of (λ n. nat_le 13 n) ≡ 1597440
 unfolding calls_below
 highest = refl

@@ -4,7 +4,7 @@ use Rattle.std.specs.Int.{IsPowerOfTwo}
 use Rattle.std.specs.List.{range_with_len}
 use Rattle.tp_base.specs.Ranges.{IsFrameNo}
 use Rattle.kernel_clone.specs.declared.operation.Call.{Call}
-use Rattle.kernel_clone.specs.declared.operation.Call.TheVariants.{Exit, Put, Alloc, Table, Map, Unmap, Copy, Delete, Revoke, Poll, Wait, Signal, Spawn, Yield, EndThread}
+use Rattle.kernel_clone.specs.declared.operation.Call.TheVariants.{Exit, Put, Alloc, Table, Map, Unmap, Copy, Delete, Revoke, Poll, Wait, Signal, Spawn, Yield, EndThread, Send, Receive}
 use Rattle.kernel_clone.specs.declared.Kind.{Kind}
 use Rattle.kernel_clone.specs.declared.Kind.TheVariants.{Fetch, Load, Store}
 
@@ -46,6 +46,8 @@ call_number Signal = 11
 call_number Spawn = 12
 call_number Yield = 13
 call_number EndThread = 14
+call_number Send = 19
+call_number Receive = 20
 
 abbrev pub delivery_op : ℕ
 delivery_op = 15

@@ -2,7 +2,7 @@
 //! are whose, and which calls may be made.
 ghost use Rattle.std.specs.Prelude.{◌≡◌, ◌≢◌, ℕ, ◌*◌, ◌/◌, ◌%◌, ◌<◌, Bool, true, false, All, length, slice_get, Some};
 ghost use Rattle.kernel_clone.specs.Footprints.{Layout, WorkDone, IsLayout, touches, is_of_switch, lines_in_frame, text_line, shared_line};
-ghost use Rattle.kernel_clone.specs.Permissions.{EveryCallLaw, CallsLaw};
+ghost use Rattle.kernel_clone.specs.Permissions.{EveryCallLaw, CallsLaw, WithoutMailLaw};
 ghost use Rattle.kernel_clone.specs.Laws.{frame_of, frame_at, IsPlaced, MayStore, StoresIn, count_of, IsPlain, text_lines};
 ghost use Rattle.kernel_clone.specs.declared.Kind.TheVariants.{Load};
 
@@ -47,8 +47,10 @@ pub fn entries_lie_in_their_frames()
 {}
 
 /// Each call has a bit of its own, and what is no call has none: of the calls that
-/// a test has, just these may be made, and of all calls each.
+/// a test has, just these may be made, and of all calls each; without those on
+/// mailboxes none of these.
 pub fn permissions()
     ensures every { EveryCallLaw }
     ensures calls { CallsLaw }
+    ensures without_mail { WithoutMailLaw }
 {}

@@ -16,7 +16,10 @@ pub use footprint::{
     own_touch, shared_count, stack_start, text_start,
 };
 pub use laws::{counts, entries_lie_in_their_frames, lines, permissions, places};
-pub use operation::{BAD_CALL, CALLS_END, Call, DELIVERY, ENTER, EVERY_CALL, LEAVE, is_call};
+pub use operation::{
+    BAD_CALL, CALLS_END, Call, DELIVERY, ENTER, EVERY_CALL, LEAVE, has_call, is_call, is_mail,
+    without_mail,
+};
 use tp_base::FrameNo;
 
 /// How a line is touched.

@@ -14,7 +14,7 @@ use call_table::{DomainStatus, Reply};
 use cap_table::{CapTable, Given};
 use frame_colours::{AllColours, Frame, Pool, Table};
 use irq_partition::{IrqPart, Moment};
-use kernel_call::{Beginning, Domain, Outcome, call, deliver};
+use kernel_call::{Beginning, Domain, Outcome, call_on_memory, deliver};
 use kernel_clone::{CloneLayout, DELIVERY, EVERY_CALL};
 use page_map::PageMap;
 use phys_mem::PhysMem;
@@ -22,7 +22,7 @@ use rv_core::Regs;
 use std::alloc::Global;
 use std::test::Fail;
 use thread_set::{ThreadSet, ThreadState};
-use tp_base::{FrameNo, Memory};
+use tp_base::{DomainNo, FrameNo, Memory};
 
 // The frames 1, 5, .. to 61.
 fn frames(alloc: Global) -> Result<Pool, Memory>
@@ -86,7 +86,7 @@ fn opened_in(alloc: Global, memory: &mut PhysMem) -> Result<Domain, Memory>
         threads: ThreadSet::new(0x10000),
         layout: layout(),
         calls: EVERY_CALL,
-        number: 0,
+        number: DomainNo::new(0),
     };
     let domain = Domain::new(alloc, begin)?;
     Ok(domain)
@@ -123,7 +123,7 @@ pub fn made(
     if !is_ready || domain.replies.count > 1000 || memory.frames() > 64 {
         return None;
     }
-    Some(call(domain, memory, number, args))
+    Some(call_on_memory(domain, memory, number, args))
 }
 
 // The reply's code and value. What may not be done is left out, and answers so.

@@ -9,6 +9,8 @@ mod capabilities;
 #[cfg(test)]
 mod frames;
 #[cfg(test)]
+mod mailboxes;
+#[cfg(test)]
 mod outcomes;
 #[cfg(test)]
 mod page_tables;

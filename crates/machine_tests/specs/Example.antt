@@ -15,7 +15,7 @@ use Rattle.thread_set.specs.Threads as threads
 use Rattle.thread_set.specs.Threads.{never, turned_to, yielded, given_way, with_current, all_ended}
 use Rattle.cap_table.specs.Slots as slots
 use Rattle.irq_partition.specs.Interrupts as interrupts
-use Rattle.kernel_clone.specs.Permissions.{may_make, every_call, calls_below}
+use Rattle.kernel_clone.specs.Permissions.{may_make, every_call, without_mail, calls_below}
 use Rattle.kernel_clone.specs.Footprints.{text_touches, stack_touches, data_touches, shared_touches, zeroed_touches, entry_touches, touches}
 use Rattle.call_table.specs.declared.DomainStatus.TheVariants.{Exited}
 use Rattle.call_table.specs.Domain as domain
@@ -114,7 +114,7 @@ two_domains red blue = record {
         lines = [];
         moments = [];
         calls = every_call;
-        makes = every_call;
+        makes = without_mail every_call;
       }
       ∷ record {
         number = 1;
@@ -126,7 +126,7 @@ two_domains red blue = record {
         lines = [];
         moments = [];
         calls = every_call;
-        makes = every_call;
+        makes = without_mail every_call;
       } ∷ [];
 }
 

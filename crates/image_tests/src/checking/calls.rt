@@ -27,6 +27,23 @@ K18 at 1 found 2 wanted 14
 frames = 64 => version = 2~frames = 64
 colours = [2] => colours = [2]~calls = [9223372036854775807]
 K18 at 1 found 0 wanted 14
+# the calls on mailboxes, whose numbers stand apart
+frames = 64 => version = 2~frames = 64
+colours = [2] => colours = [2]~calls = [14, 19, 20]
+accepted
+frames = 64 => version = 2~frames = 64
+colours = [2] => colours = [2]~calls = [14, 18, 19]
+K18 at 1 found 1 wanted 14
+frames = 64 => version = 2~frames = 64
+colours = [2] => colours = [2]~calls = [19, 21]
+K18 at 1 found 1 wanted 14
+frames = 64 => version = 2~frames = 64
+colours = [2] => colours = [2]~calls = [20, 19]
+K18 at 1 found 1 wanted 14
+frames = 64 => version = 2~frames = 64
+colours = [1] => colours = [1]~calls = [19, 20]
+pad = 6150 => pad = 2373
+K17 at 0 found 2373 wanted 2374
 frames = 64 => version = 2~frames = 64
 colours = [2] => colours = [2]~calls = [1, -9223372036854775808]
 K18 at 1 found 1 wanted 14
@@ -216,7 +233,10 @@ fn has_few_calls(rt: &impl Abort, image: &Unpadded) {
     is_equal(rt, "version", image.public().version, 2);
     assert_eq!(rt; image.public().domains, 2);
     let (red, blue) = (image.own(0).calls, image.own(1).calls);
-    is_equal(rt, "calls", (red, blue), (3, 0x7fff));
+    is_equal(rt, "calls", (red, blue), (3, 0x18_7fff));
+    // Without mailboxes none makes a call on them.
+    let (red, blue) = (image.own(0).makes, image.own(1).makes);
+    is_equal(rt, "calls made", (red, blue), (3, 0x7fff));
     are_bounds(
         rt,
         bound(&image.shape()),

@@ -25,7 +25,7 @@ use crate::images::{MACHINE, accepted};
 use cap_table::Cap;
 use domain_open::{load_pages, open_all};
 use image_check::Checked;
-use kernel_call::{Domain, Outcome, SLOTS, call, deliver};
+use kernel_call::{Domain, Outcome, SLOTS, call_on_memory, deliver};
 use phys_mem::PhysMem;
 use std::alloc::Global;
 use std::test::Fail;
@@ -586,7 +586,7 @@ fn first_wrong(domain: &mut Domain, memory: &mut PhysMem) -> (Option<(u32, u32)>
         } else {
             None
         };
-        let outcome = call(domain, memory, request.number, request.args);
+        let outcome = call_on_memory(domain, memory, request.number, request.args);
         let after = state_of(domain);
         let wrong_now = wrong_fact(domain, memory, &after);
         let mut wrong = wrong_reply(&before, request, &outcome, &after).or(wrong_now);

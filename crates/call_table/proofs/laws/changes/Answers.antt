@@ -1,5 +1,6 @@
 -- The laws of slots that are set, and of entries that are written.
 use Rattle.call_table.proofs.EntriesWritten.{allocated_slot, mapped_slot, copied_page, copied_line, deleted_slot, revoked_slots, entries_are}
+use Rattle.call_table.proofs.FreedFrames.{freed}
 use Rattle.call_table.proofs.laws.changes.Goals as goal
 
 pub returns-clause-deleted : goal.returns-clause-deleted
@@ -22,3 +23,6 @@ returns-clause-copied_page c = λ e d x m frame rights at h is does there. copie
 
 pub returns-clause-copied_line : goal.returns-clause-copied_line
 returns-clause-copied_line c = λ e d x m line h is does there. copied_line e d x m line h is does there
+
+pub returns-clause-freed : goal.returns-clause-freed
+returns-clause-freed c = freed

@@ -1,7 +1,7 @@
 use Rattle.std.proofs.Common.{◌&&◌, pos, arith, refl}
 use Rattle.kernel_clone.specs.Permissions.{is_call, calls_below}
 use Rattle.image_record.specs.Numbers.{names}
-use Rattle.domain_check.proofs.CallBits.{bits_more, bits_fit}
+use Rattle.kernel_clone.proofs.CallLaws.{bits_more, bits_fit}
 use Rattle.domain_check.proofs.calls.calls_among.Goals as goal
 
 pub loop-call-init : goal.loop-call-init

@@ -35,7 +35,7 @@ pub returns-clause-calls : goal.returns-clause-calls
 unfolding Called
 returns-clause-calls c = λ e readings replies m h logged kept.
     let d = c.args.domain.now in
-    by_registers e (dom_model d readings replies) m c.call.new.memory c.call.new.domain (length replies) c.call.result
+    by_registers e (dom_model d readings replies) m c.call_on_memory.new.memory c.call_on_memory.new.domain (length replies) c.call_on_memory.result
     d.calls c.get-number.result c.get.result c.get-2.result c.get-3.result h.has.calls
     c.get-number.ensures.word c.get.ensures.word c.get-2.ensures.word c.get-3.ensures.word
-    (c.call.ensures.calls e readings replies m h logged kept)
+    (c.call_on_memory.ensures.calls e readings replies m h logged kept)

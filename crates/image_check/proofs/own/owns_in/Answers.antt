@@ -1,4 +1,4 @@
-use Rattle.std.proofs.Common.{◌≡◌, ◌+◌, List, ◌∷◌, [], ◌++◌, drop, map, ap, sym, subst, ◌∙◌}
+use Rattle.std.proofs.Common.{◌≡◌, ℕ, ◌+◌, List, ◌∷◌, [], ◌++◌, drop, map, ap, sym, subst, ◌∙◌}
 use Rattle.std.proofs.lemmas.List.{append-nil, drop_more, drop_all}
 use Rattle.image_record.specs.declared.raw.RawDomain.{RawDomain}
 use Rattle.image_record.specs.Parts.{domain_model}
@@ -53,7 +53,8 @@ loop-number-preserved c =
           (owns_from k (map domain_model (drop k ds))) (owns_from (k + 1) (map domain_model rest))
           (owns_from 0 (map domain_model ds)) (own_from k (domain_model d))
           (ap (λ (os : List RawDomain). owns_from k (map domain_model os)) left) c.loop-number.invariant.0
-          c.in_ok-push.ensures.items c.in_ok-own_from.ensures.value,
+          c.in_ok-push.ensures.items
+          (c.in_ok-own_from.ensures.value ∙ ap (λ (n : ℕ). own_from n (domain_model d)) c.new.ensures.value),
       are_left c.loop-number.parts c.take_first.new.self c.take_first.result (domain_model d)
           (map domain_model rest) parts c.take_first.ensures.taken,
     )

@@ -1,7 +1,6 @@
 use Rattle.std.proofs.Common.{refl, sym, ◌∙◌, arith}
 use Rattle.image_record.specs.Parts.{entry_model}
 use Rattle.pad_bound.specs.Models.{shape_model}
-use Rattle.image_record.specs.Cases.{first_in}
 use Rattle.image_check.specs.Pads.{k17_by}
 use Rattle.image_record.proofs.Loops.{refused, passed_of, found_of, ended_of, count_of}
 use Rattle.image_check.proofs.Padded.{k17_by_case}

@@ -3,9 +3,10 @@ use Rattle.std.specs.Prelude.{slice_index}
 use Rattle.tp_base.specs.Act.{give}
 use Rattle.call_table.specs.Domain.{Dom, exited, turned, done, thread_ended}
 use Rattle.call_table.specs.Calls.{call_of, poll, wait, signal, spawn}
+use Rattle.kernel_call.specs.declared.error.CallError.TheVariants as error
 use Rattle.kernel_call.specs.Models.{dom_model}
 use Rattle.kernel_clone.specs.Footprints.{call_number}
-use Rattle.kernel_call.proofs.TiesThreads.{answered_by, answered_not, answered_turned, last_without_memory}
+use Rattle.kernel_call.proofs.TiesThreads.{answered_by, answered_not, answered_refused, answered_turned, last_without_memory, no_memory_call}
 use Rattle.kernel_call.proofs.threads.call_without_memory.Goals as goal
 
 pub returns-in-Exit-clause-answers : goal.returns-in-Exit-clause-answers
@@ -89,15 +90,14 @@ returns-in-Yield-clause-answers c e readings replies m logged kept =
     (ap call_number c.in-Yield.is) refl (answered_turned m (length replies) c.yield_turn.new.domain _ d c.yield_turn.result
     refl (omega arith) c.yield_turn.ensures.reply (c.yield_turn.ensures.becomes readings replies logged kept))
 
-pub returns-in_default-clause-answers : goal.returns-in_default-clause-answers
+pub returns-in-EndThread-clause-answers : goal.returns-in-EndThread-clause-answers
 unfolding call_of give thread_ended
-returns-in_default-clause-answers c e readings replies m logged kept =
+returns-in-EndThread-clause-answers c e readings replies m logged kept =
     let d : Dom = dom_model c.args.domain.now readings replies in
     answered_by (call_number c.args.call) 14 e d (slice_index c.args.args 0) (slice_index c.args.args 1) (slice_index c.args.args 2) m
     (length replies) c.end_thread.result c.end_thread.new.domain
     (give (thread_ended d) m)
-    (last_without_memory c.args.call c.requires.others c.in_default.not-Exit c.in_default.not-Poll c.in_default.not-Wait
-    c.in_default.not-Signal c.in_default.not-Spawn c.in_default.not-Yield) refl (answered_not m
+    (ap call_number c.in-EndThread.is) refl (answered_not m
     (length replies) c.end_thread.new.domain _ (thread_ended d) c.end_thread.result
     refl (omega arith) c.end_thread.ensures.reply (c.end_thread.ensures.becomes readings replies logged kept))
 
@@ -119,11 +119,21 @@ returns-in-Yield-clause-caps c = c.yield_turn.ensures.caps
 pub returns-in-Yield-clause-pool : goal.returns-in-Yield-clause-pool
 returns-in-Yield-clause-pool c = c.yield_turn.ensures.pool
 
-pub returns-in_default-clause-keeps : goal.returns-in_default-clause-keeps
-returns-in_default-clause-keeps c = c.end_thread.ensures.keeps
+pub returns-in-EndThread-clause-keeps : goal.returns-in-EndThread-clause-keeps
+returns-in-EndThread-clause-keeps c = c.end_thread.ensures.keeps
 
-pub returns-in_default-clause-caps : goal.returns-in_default-clause-caps
-returns-in_default-clause-caps c = c.end_thread.ensures.caps
+pub returns-in-EndThread-clause-caps : goal.returns-in-EndThread-clause-caps
+returns-in-EndThread-clause-caps c = c.end_thread.ensures.caps
 
-pub returns-in_default-clause-pool : goal.returns-in_default-clause-pool
-returns-in_default-clause-pool c = c.end_thread.ensures.pool
+pub returns-in-EndThread-clause-pool : goal.returns-in-EndThread-clause-pool
+returns-in-EndThread-clause-pool c = c.end_thread.ensures.pool
+
+pub returns-in_default-clause-answers : goal.returns-in_default-clause-answers
+returns-in_default-clause-answers c e readings replies m logged kept =
+    let d : Dom = dom_model c.args.domain.now readings replies in
+    answered_refused m (length replies) c.reply_to.new.domain _ d error.BadCall c.reply.result c.reply_to.result
+    (no_memory_call c.args.call
+    (last_without_memory c.args.call c.requires.others c.in_default.not-Exit c.in_default.not-Poll c.in_default.not-Wait
+    c.in_default.not-Signal c.in_default.not-Spawn c.in_default.not-Yield c.in_default.not-EndThread) e d m
+    (slice_index c.args.args 0) (slice_index c.args.args 1) (slice_index c.args.args 2))
+    (omega arith) c.reply.ensures.value c.reply_to.ensures.reply (c.reply_to.ensures.becomes readings replies logged kept)

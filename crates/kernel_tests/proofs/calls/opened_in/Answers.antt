@@ -10,7 +10,7 @@ use Rattle.kernel_tests.proofs.Opening.{slots_of, first_of, second_of, is_valid}
 use Rattle.kernel_tests.proofs.calls.opened_in.Goals as goal
 
 -- the bits of all calls
-every : {calls : ℕ} → calls ≡ 32767 → calls ≡ every_call
+every : {calls : ℕ} → calls ≡ 1605631 → calls ≡ every_call
 unfolding calls_below
 every is = is
 
