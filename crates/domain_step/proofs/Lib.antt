@@ -7,6 +7,7 @@ pub mod Events
 mod Calls
 pub mod Moved
 pub mod Counts
+pub mod Retired
 pub mod Standing
 pub mod Elements
 pub mod InSlot

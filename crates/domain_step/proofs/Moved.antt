@@ -387,42 +387,43 @@ module _ {P : Type 0} (rule : P → ℕ → Rule) (stands : P → ℕ → ℕ �
   -- ---- events along a slot
 
   module _ (end until : ℕ) where
-    abbrev pub Along : Contents → Domain → SystemContents P → ℕ → Contents → Domain → SystemContents P → ℕ → Type 0
+    abbrev pub Along : (events : ℕ) → Contents → Domain → SystemContents P → ℕ → Contents → Domain → SystemContents P → ℕ
+        → Type 0
     Along = MovesAlong rule stands end until
 
     pub along_none : (memory : Contents) (d : Domain) (system : SystemContents P) (now : ℕ)
-        → Along memory d system now memory d system now
-    along_none memory d system now w s i = record { events = 0; state = s; each = refl; stands_in = i }
+        → Along 0 memory d system now memory d system now
+    along_none memory d system now w s i = record { state = s; each = refl; stands_in = i }
 
     -- those before a clock that is no later are events before this one, too
     pub along_then : (memory between memory' : Contents) (old now new : Domain)
-        (system middle system' : SystemContents P) (first clock later sooner : ℕ) → sooner ≤ until
-        → Along memory old system first between now middle clock
-        → MovesAlong rule stands end sooner between now middle clock memory' new system' later
-        → Along memory old system first memory' new system' later
-    along_then memory between memory' old now new system middle system' first clock later sooner most so_far more w s i =
+        (system middle system' : SystemContents P) (first clock later sooner n k all : ℕ) → sooner ≤ until → all ≡ n + k
+        → Along n memory old system first between now middle clock
+        → MovesAlong rule stands end sooner k between now middle clock memory' new system' later
+        → Along all memory old system first memory' new system' later
+    along_then memory between memory' old now new system middle system' first clock later sooner n k all most sum so_far more w s i =
         let x = so_far w s i in
         let y = more w x.state x.stands_in in
         record {
-          events = x.events + y.events;
           state = y.state;
           each =
-              happen_then w end until x.events y.events s x.state y.state x.each
-              (happen_sooner w end sooner until most y.events x.state y.state y.each);
+              subst (λ (m : ℕ). Happen w end until m s y.state) (sym sum)
+              (happen_then w end until n k s x.state y.state x.each
+              (happen_sooner w end sooner until most k x.state y.state y.each));
           stands_in = y.stands_in;
         }
 
     pub along_step : (memory : Contents) (old : Domain) (system : SystemContents P) (first : ℕ) (memory' : Contents)
         (new : Domain) (system' : SystemContents P) (later : ℕ) → first < until
         → Moves rule stands (λ w. step w end) memory old system first memory' new system' later
-        → Along memory old system first memory' new system' later
+        → Along 1 memory old system first memory' new system' later
     along_step memory old system first memory' new system' later below moves w s i =
         let early : s.clock < until = subst (λ (n : ℕ). n < until) i.time below in
-        record { events = 1; state = step w end s; each = (early, refl); stands_in = moves w s i }
+        record { state = step w end s; each = (early, refl); stands_in = moves w s i }
 
     module _ (memory : Contents) (old : Domain) (system : SystemContents P) (first : ℕ) (base : 0 < system.core.costs.base)
-        (trap : 0 < system.core.costs.trap) (memory' : Contents) (now : Domain) (system' : SystemContents P) (clock : ℕ)
-        (so_far : Along memory old system first memory' now system' clock) (past : until ≤ clock) where
+        (trap : 0 < system.core.costs.trap) (memory' : Contents) (now : Domain) (system' : SystemContents P) (clock n : ℕ)
+        (so_far : Along n memory old system first memory' now system' clock) (past : until ≤ clock) where
       timed_there : (w : Setting) (s : Local) → StandsIn rule stands w memory old system first s
           → IsTimed w.machine
       timed_there w s i = record {
@@ -441,7 +442,7 @@ module _ {P : Type 0} (rule : P → ℕ → Rule) (stands : P → ℕ → ℕ �
           let x = so_far w s i in
           let far = over w s i in
           let same : stretch w end s ≡ x.state =
-          whole_slot w (timed_there w s i) end until all x.events s x.state x.each (omega (arith, far, all)) in
+          whole_slot w (timed_there w s i) end until all n s x.state x.each (omega (arith, far, all)) in
           subst (StandsIn rule stands w memory' now system' clock) (sym same) x.stands_in
 
       -- within a cycle they are one
@@ -452,5 +453,5 @@ module _ {P : Type 0} (rule : P → ℕ → Rule) (stands : P → ℕ → ℕ �
           let far = over w s i in
           let here = i.time in
           let same : step w end s ≡ x.state =
-          one_event w (timed_there w s i) end until within x.events s x.state (omega (arith, one, here)) x.each far in
+          one_event w (timed_there w s i) end until within n s x.state (omega (arith, one, here)) x.each far in
           subst (StandsIn rule stands w memory' now system' clock) (sym same) x.stands_in

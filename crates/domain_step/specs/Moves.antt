@@ -97,21 +97,21 @@ abbrev pub Happen : Setting → (end until : ℕ) → ℕ → Local → Local �
 Happen w end until zero s x = s ≡ x
 Happen w end until (suc n) s x = (s.clock < until) × Happen w end until n (step w end s) x
 
--- what they stand for after some events
+-- what they stand for after so many events
 pub record Went {P : Type 0} (rule : P → ℕ → Rule) (stands : P → ℕ → ℕ → List ℕ → Type 0) (w : Setting)
-    (end until : ℕ) (memory : Contents) (d : Domain) (system : SystemContents P) (clock : ℕ) (s : Local) : Type 0 where
-  pub events : ℕ
+    (end until events : ℕ) (memory : Contents) (d : Domain) (system : SystemContents P) (clock : ℕ) (s : Local)
+    : Type 0 where
   pub state : Local
   pub each : Happen w end until events s state
   pub stands_in : StandsIn rule stands w memory d system clock state
 
--- whatever the old ones stand for, in whatever setting, the new ones stand for it after events of a slot that ends
--- then, each of which begins before this clock
-abbrev pub MovesAlong : {P : Type 0} → (P → ℕ → Rule) → (P → ℕ → ℕ → List ℕ → Type 0) → (end until : ℕ)
+-- whatever the old ones stand for, in whatever setting, the new ones stand for it after so many events of a slot that
+-- ends then, each of which begins before this clock
+abbrev pub MovesAlong : {P : Type 0} → (P → ℕ → Rule) → (P → ℕ → ℕ → List ℕ → Type 0) → (end until events : ℕ)
     → Contents → Domain → SystemContents P → ℕ → Contents → Domain → SystemContents P → ℕ → Type 0
-MovesAlong rule stands end until memory old system now memory' new system' later = (w : Setting) (s : Local)
+MovesAlong rule stands end until events memory old system now memory' new system' later = (w : Setting) (s : Local)
     → StandsIn rule stands w memory old system now s
-    → Went rule stands w end until memory' new system' later s
+    → Went rule stands w end until events memory' new system' later s
 
 -- they stand for some state of some domain
 pub record Runs {P : Type 0} (rule : P → ℕ → Rule) (stands : P → ℕ → ℕ → List ℕ → Type 0)

@@ -1,5 +1,5 @@
 -- How the counts of a domain of the code grow in a step, and which of its parts stay.
-use Rattle.std.specs.Prelude.{◌≡◌, ℕ, ◌+◌, ◌^◌, ◌<◌, ◌≤◌, true, None}
+use Rattle.std.specs.Prelude.{◌≡◌, ℕ, ◌+◌, ◌^◌, ◌<◌, ◌≤◌, if◌then◌else◌, Bool, true, None}
 use Rattle.irq_partition.specs.Interrupts.{due}
 use Rattle.thread_set.specs.Threads.{is_ready}
 use Rattle.call_table.specs.declared.DomainStatus.TheVariants.{Running}
@@ -11,9 +11,9 @@ pub record HasRoom (d : Domain) : Type 0 where
   pub readings : d.readings.count < 2 ^ 63
   pub replies : d.replies.count < 2 ^ 63
 
--- each count grows by at most so much
+-- so many more instructions have retired, and each log has grown by at most so much
 pub record Grows (a b c : ℕ) (old new : Domain) : Type 0 where
-  pub retired : new.retired ≤ old.retired + a
+  pub retired : new.retired ≡ old.retired + a
   pub readings : new.readings.count ≤ old.readings.count + b
   pub replies : new.replies.count ≤ old.replies.count + c
 
@@ -32,6 +32,10 @@ pub record GoesOn (old new : Domain) : Type 0 where
   pub status : new.status ≡ old.status
   pub thread : new.threads.active.state ≡ old.threads.active.state
   pub interrupts : new.interrupts ≡ old.interrupts
+
+-- an instruction retires where its domain goes on, and neither a trap nor a kernel call does
+abbrev pub retired_by : Bool → ℕ
+retired_by goes_on = if goes_on then 1 else 0
 
 -- at a clock its next event is an instruction: it runs, its current thread is ready, and no moment is due
 pub record IsPlain (d : Domain) (now : ℕ) : Type 0 where

@@ -14,5 +14,5 @@ mod used;
 
 pub use harts::has_one_hart;
 pub use open::open_slot;
-pub use slot::{run_until, step, stretch};
+pub use slot::{Advance, run_until, step, stretch};
 pub use used::{note_switch, unused};

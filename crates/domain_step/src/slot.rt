@@ -23,7 +23,7 @@ ghost use Rattle.mem_system.specs.Operations.{operation, plain};
 ghost use Rattle.world_view.specs.Event as event;
 ghost use Rattle.world_view.specs.Machine as spec;
 ghost use Rattle.world_view.specs.Kernel.{estate};
-ghost use Rattle.domain_step.specs.Stands.{HasRoom, Grows, KeepsFrames, GoesOn, IsPlain, IsOther};
+ghost use Rattle.domain_step.specs.Stands.{HasRoom, Grows, KeepsFrames, GoesOn, retired_by, IsPlain, IsOther};
 ghost use Rattle.world_view.specs.Machine.{Setting};
 ghost use Rattle.domain_step.specs.Kept.{Kept, KeptOf};
 ghost use Rattle.domain_step.specs.Moves.{Yields, Answered, Finds, Leaves, Moves, MovesAlong, Runs};
@@ -136,7 +136,7 @@ fn settle<P: Policy>(
         domain.new (Kept P.rule P.stands_for w domain.old.caps begun.now.root
         memory.new (system core.new l2.new) spent.new) }
     ensures frames { memory.new.frames ≡ memory.old.frames }
-    ensures grows { Grows 1 1 0 domain.old domain.new }
+    ensures grows { Grows (retired_by result) 1 0 domain.old domain.new }
     ensures keeps { KeepsFrames domain.old domain.new }
     ensures goes_on { result ≡ true → GoesOn domain.old domain.new }
     ensures few { spent.new ≤ spent.old + most_outcome }
@@ -184,7 +184,7 @@ fn execute<P: Policy>(
         domain.new (Kept P.rule P.stands_for w domain.old.caps begun.now.root
         memory.new (system core.new l2.new) spent.new) }
     ensures frames { memory.new.frames ≡ memory.old.frames }
-    ensures grows { Grows 1 1 0 domain.old domain.new }
+    ensures grows { Grows (retired_by result) 1 0 domain.old domain.new }
     ensures keeps { KeepsFrames domain.old domain.new }
     ensures goes_on { result ≡ true → GoesOn domain.old domain.new }
     ensures few { spent.new ≤ spent.old + most_plain }
@@ -224,7 +224,7 @@ fn run_instruction<P: Policy>(
         domain.old (KeptOf P.rule P.stands_for w domain.old memory.old (system core.old l2.old) spent.old)
         domain.new (KeptOf P.rule P.stands_for w domain.new memory.new (system core.new l2.new) spent.new) }
     ensures frames { memory.new.frames ≡ memory.old.frames }
-    ensures grows { Grows 1 1 2 domain.old domain.new }
+    ensures grows { Grows (retired_by result) 1 2 domain.old domain.new }
     ensures moments { domain.new.interrupts.moments ≡ domain.old.interrupts.moments }
     ensures goes_on { result ≡ true → GoesOn domain.old domain.new }
     ensures few { spent.new ≤ spent.old + most_instruction }
@@ -357,6 +357,7 @@ fn run<P: Policy>(
     ensures runs { Runs P.rule P.stands_for memory.new domain.new (system core.new l2.new) result.clock }
     ensures few { CountsUpTo result.clock domain.new }
     ensures goes_on { result.goes_on ≡ true → GoesOn domain.old domain.new }
+    ensures retired { domain.new.retired ≡ domain.old.retired + retired_by result.goes_on }
     ensures later { now < result.clock }
     ensures soon { result.clock ≤ now + most_event }
 {
@@ -424,8 +425,17 @@ fn wait_or_deliver<P: Policy>(
     next
 }
 
+/// How far events come.
+#[derive(Clone, Copy)]
+pub struct Advance {
+    /// The clock after them, in cycles.
+    pub clock: u64,
+    /// How many they are.
+    pub events: u64,
+}
+
 // Instructions, one after the other, while the domain goes on and the clock is
-// below `until`; one at least. Answers the clock after them.
+// below `until`; one at least.
 #[inline(always)]
 fn run_plain<P: Policy>(
     memory: &mut PhysMem,
@@ -434,25 +444,27 @@ fn run_plain<P: Policy>(
     domain: &mut Domain,
     now: u64,
     until: u64,
-) -> u64
+) -> Advance
     requires frames { memory.old.frames ≤ 2 ^ 15 }
     requires runs { Runs P.rule P.stands_for memory.old domain.old (system core.old l2.old) now }
     requires plain { (t : ℕ) → t < until → IsPlain domain.old t }
     requires before { now < until }
     requires until { until < 2 ^ 62 }
     requires few { CountsUpTo now domain.old }
-    ensures along { (end : ℕ) → MovesAlong P.rule P.stands_for end until
+    ensures along { (end : ℕ) → MovesAlong P.rule P.stands_for end until result.events
         memory.old domain.old (system core.old l2.old) now memory.new domain.new
-        (system core.new l2.new) result }
+        (system core.new l2.new) result.clock }
     ensures frames { memory.new.frames ≡ memory.old.frames }
     ensures hierarchy { hierarchy_of P.rule (system core.new l2.new) ≡ hierarchy_of P.rule
         (system core.old l2.old) }
     ensures pinned { core.new.pinned ≡ core.old.pinned }
-    ensures runs { Runs P.rule P.stands_for memory.new domain.new (system core.new l2.new) result }
-    ensures few { CountsUpTo result domain.new }
-    ensures later { now < result }
-    ensures soon { result < until + most_event }
+    ensures runs { Runs P.rule P.stands_for memory.new domain.new (system core.new l2.new) result.clock }
+    ensures few { CountsUpTo result.clock domain.new }
+    ensures later { now < result.clock }
+    ensures apart { now + result.events ≤ result.clock }
+    ensures soon { result.clock < until + most_event }
 {
+    let before = domain.retired;
     let mut clock = now;
     let mut goes_on = true;
     while goes_on && clock < until {
@@ -460,11 +472,22 @@ fn run_plain<P: Policy>(
         clock = ran.clock;
         goes_on = ran.goes_on;
     }
-    clock
+    // Each retired, but for a last one with which the domain doesn't go on.
+    let retired = domain.retired - before;
+    if goes_on {
+        return Advance {
+            clock,
+            events: retired,
+        };
+    }
+    Advance {
+        clock,
+        events: retired + 1,
+    }
 }
 
 /// Events while the clock is below `until`, in a slot that ends then or later. Answers the
-/// clock after them, in cycles. Of a domain that runs, a moment that is due is delivered, and
+/// clock after them, and how many they are. Of a domain that runs, a moment that is due is delivered, and
 /// the delivery charged; else, where no thread is ready, the clock goes on to the next moment
 /// or the end; else the current thread runs an instruction, which with all that it charges
 /// may be past the end. One that doesn't run waits for the end.
@@ -479,43 +502,48 @@ pub fn run_until<P: Policy>(
     now: u64,
     until: u64,
     end: u64,
-) -> u64
+) -> Advance
     requires frames { memory.old.frames ≤ 2 ^ 15 }
     requires runs { Runs P.rule P.stands_for memory.old domain.old (system core.old l2.old) now }
     requires within { until ≤ end }
     requires end { end < 2 ^ 62 }
     requires few { CountsUpTo now domain.old }
-    ensures along { MovesAlong P.rule P.stands_for end until
+    ensures along { MovesAlong P.rule P.stands_for end until result.events
         memory.old domain.old (system core.old l2.old) now memory.new domain.new
-        (system core.new l2.new) result }
+        (system core.new l2.new) result.clock }
     ensures once { until ≡ now + 1 → Moves P.rule P.stands_for (λ w. spec.step w end)
         memory.old domain.old (system core.old l2.old) now memory.new domain.new
-        (system core.new l2.new) result }
+        (system core.new l2.new) result.clock }
     ensures whole { until ≡ end → Moves P.rule P.stands_for (λ w. spec.stretch w end)
         memory.old domain.old (system core.old l2.old) now memory.new domain.new
-        (system core.new l2.new) result }
+        (system core.new l2.new) result.clock }
     ensures frames { memory.new.frames ≡ memory.old.frames }
     ensures hierarchy { hierarchy_of P.rule (system core.new l2.new) ≡ hierarchy_of P.rule
         (system core.old l2.old) }
     ensures pinned { core.new.pinned ≡ core.old.pinned }
-    ensures runs { Runs P.rule P.stands_for memory.new domain.new (system core.new l2.new) result }
-    ensures few { CountsUpTo result domain.new }
-    ensures over { until ≤ result }
-    ensures soon { now < until → result < end + most_event }
-    ensures done { until ≤ now → result ≡ now }
+    ensures runs { Runs P.rule P.stands_for memory.new domain.new (system core.new l2.new) result.clock }
+    ensures few { CountsUpTo result.clock domain.new }
+    ensures over { until ≤ result.clock }
+    ensures soon { now < until → result.clock < end + most_event }
+    ensures done { until ≤ now → result.clock ≡ now }
+    ensures apart { now + result.events ≤ result.clock }
 {
     // Each event takes a cycle or more.
     let _costs = core.costs();
     let mut clock = now;
+    let mut events = 0;
     while clock < until {
         let plain = plain_until(domain, until);
-        clock = if clock < plain {
-            run_plain(memory, core, l2, domain, clock, plain)
+        if clock < plain {
+            let ran = run_plain(memory, core, l2, domain, clock, plain);
+            clock = ran.clock;
+            events += ran.events;
         } else {
-            wait_or_deliver(memory, core, l2, domain, clock, end)
-        };
+            clock = wait_or_deliver(memory, core, l2, domain, clock, end);
+            events += 1;
+        }
     }
-    clock
+    Advance { clock, events }
 }
 
 /// One event of the domain in a slot that ends then. Answers the new clock, in cycles.
@@ -544,7 +572,7 @@ pub fn step<P: Policy>(
     ensures later { now < result }
     ensures soon { result < end + most_event }
 {
-    run_until(memory, core, l2, domain, now, now + 1, end)
+    run_until(memory, core, l2, domain, now, now + 1, end).clock
 }
 
 /// Events while the clock is below the end. Answers the clock after them.
@@ -574,5 +602,5 @@ pub fn stretch<P: Policy>(
     ensures soon { now < end → result < end + most_event }
     ensures done { end ≤ now → result ≡ now }
 {
-    run_until(memory, core, l2, domain, now, end, end)
+    run_until(memory, core, l2, domain, now, end, end).clock
 }

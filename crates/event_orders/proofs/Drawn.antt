@@ -18,20 +18,20 @@ passing_if : (t : ℕ → Bool) (P : ℕ → Type 0) (b : ℕ) → All P (passin
 passing_if t P b all true e p = All-push P (passing t b) b all (p e)
 passing_if t P b all false e p = all
 
-passing_all : (t : ℕ → Bool) (P : ℕ → Type 0) (b : ℕ) → ((h : ℕ) → h < b → t h ≡ true → P h) → All P (passing t b)
+pub passing_all : (t : ℕ → Bool) (P : ℕ → Type 0) (b : ℕ) → ((h : ℕ) → h < b → t h ≡ true → P h) → All P (passing t b)
 unfolding passing
 passing_all t P zero p = All-nil P
 passing_all t P (suc b) p =
     passing_if t P b (passing_all t P b (λ h under e. p h (omega (arith, under)) e)) (t b) refl (p b (omega arith))
 
-passing_same : (t u : ℕ → Bool) (b : ℕ) → ((h : ℕ) → h < b → t h ≡ u h) → passing t b ≡ passing u b
+pub passing_same : (t u : ℕ → Bool) (b : ℕ) → ((h : ℕ) → h < b → t h ≡ u h) → passing t b ≡ passing u b
 unfolding passing
 passing_same t u zero same = refl
 passing_same t u (suc b) same =
     ap (λ (hs : List ℕ). if t b then hs ++ b ∷ [] else hs) (passing_same t u b (λ h under. same h (omega (arith, under))))
     ∙ ap (λ (x : Bool). if x then passing u b ++ b ∷ [] else passing u b) (same b (omega arith))
 
-get_holds : (P : ℕ → Type 0) (hs : List ℕ) (k : ℕ) → All P hs → IfSome (slice_get hs k) P
+pub get_holds : (P : ℕ → Type 0) (hs : List ℕ) (k : ℕ) → All P hs → IfSome (slice_get hs k) P
 get_holds P [] k all = tt
 get_holds P (h ∷ hs) zero all = All-head P h hs all
 get_holds P (h ∷ hs) (suc k) all = get_holds P hs k (All-tail P h hs all)

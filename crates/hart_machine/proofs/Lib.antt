@@ -8,3 +8,4 @@ pub mod IsMachine
 pub mod LeastClock
 pub mod OneSlot
 pub mod Reports
+pub mod DrawnOrder

@@ -24,7 +24,7 @@ use Rattle.hart_machine.proofs.LeastClock.{ran_law}
 
 module _ (i : Image) (r : Runnable i) where
   -- worlds that are equal in each part
-  same_report : (s t : Harts) → Alike (machine_of i) s t → SameReport i s.world t.world
+  pub same_report : (s t : Harts) → Alike (machine_of i) s t → SameReport i s.world t.world
   same_report s t a = record {
     seen = λ d id.
         let same = (a.each (hart_of_domain i d) (home i r d)).parts.domains d id refl in

@@ -1,6 +1,6 @@
 -- The laws of an image's harts slot by slot; they are the clauses of functions of `laws`.
-use Rattle.std.specs.Prelude.{◌≡◌, ℕ, suc, ◌<◌, List, [], ◌++◌, replicate}
-use Rattle.event_orders.specs.Orders.{Ran, slot_events, run_slot, by_events, by_slots, cycles_left, owed_of, all_counted}
+use Rattle.std.specs.Prelude.{◌≡◌, ℕ, zero, suc, ◌<◌, List, [], ◌∷◌, ◌++◌, replicate}
+use Rattle.event_orders.specs.Orders.{Ran, slot_events, run_slot, by_events, by_slots, cycles_left, Counted, owed_of, all_counted, drawn_slots}
 use Rattle.event_orders.specs.Laws as laws
 use Rattle.event_orders.specs.Laws.{AreBetween, AreThrough, none_owed}
 use Rattle.l2_colour.specs.Colours.{colour_of_set}
@@ -14,7 +14,8 @@ use Rattle.world_view.specs.Relations.{IsDomain}
 use Rattle.world_view.specs.View.{view_in}
 use Rattle.world_view.specs.Harts.{Harts, IsOutside, slots_of, harts}
 use Rattle.world_view.specs.HartLaws.{AreHartsOf, IsBetween}
-use Rattle.hart_orders.specs.declared.choice.Choice.TheVariants.{LeastClock}
+use Rattle.seed_words.specs.Words.{seeded, word}
+use Rattle.hart_orders.specs.declared.choice.Choice.TheVariants.{LeastClock, Drawn}
 use Rattle.hart_orders.specs.Order.{ran}
 use Rattle.hart_machine.specs.HartMachine.{machine_of}
 
@@ -82,6 +83,24 @@ CountedOffLaw = (i : Image) (order : List ℕ) → Runnable i → AreHartsOf i o
     → AreBetween (machine_of i) (harts i order) →
     let s = all_counted (machine_of i) order (none_owed (harts i [])) in
     SameReport i (harts i order).world s.world.world × ((h : ℕ) → h < harts_in i.all.schedule → owed_of h s ≡ 0)
+
+-- ---- in the order that a seed draws
+
+-- so many words of a seed, from this one on
+unfoldable pub words_from : ℕ → ℕ → ℕ → List ℕ
+words_from seed j zero = []
+words_from seed j (suc f) = word (seeded seed) j ∷ words_from seed (suc j) f
+
+-- from the first event until each hart has had n slots, each of them run whole when its hart is first drawn, and its events
+-- counted off by later draws
+abbrev pub drawn_slot_by_slot : Image → ℕ → ℕ → Counted Harts
+drawn_slot_by_slot i seed n = drawn_slots (machine_of i) n (words_from seed 0 (enough i n)) (none_owed (harts i []))
+
+-- the report is the one of the order that the seed draws event by event, and no event is owed
+abbrev pub DrawnBySlotsLaw : Type 0
+DrawnBySlotsLaw = (i : Image) (seed n : ℕ) → Runnable i →
+    let s = drawn_slot_by_slot i seed n in
+    SameReport i (ran i (Drawn seed) n) s.world.world × ((h : ℕ) → h < harts_in i.all.schedule → owed_of h s ≡ 0)
 
 -- ---- of each part: a hart's core and clock, its domains' states, frames and sets, what switches took, what is nobody's, and
 -- the places of the second level's sets of the kernel's colour, if not the policy's lists of these

@@ -1,6 +1,6 @@
 //! Laws over the definitions, each the contract of a function that does nothing: a caller
 //! that calls it may rely on the law.
-ghost use Rattle.hart_machine.specs.Laws.{OneSlotLaw, RanLaw, ThroughLaw, SlotBySlotLaw, SlotsLaw, SwitchOrderLaw, CountedOffLaw, PartsLaw, AnyOrderPartsLaw, DrawnPartsLaw, KernelPlacesLaw, HartsCommuteLaw, HartsPassLaw};
+ghost use Rattle.hart_machine.specs.Laws.{OneSlotLaw, RanLaw, ThroughLaw, SlotBySlotLaw, SlotsLaw, SwitchOrderLaw, CountedOffLaw, DrawnBySlotsLaw, PartsLaw, AnyOrderPartsLaw, DrawnPartsLaw, KernelPlacesLaw, HartsCommuteLaw, HartsPassLaw};
 
 /// Events of a hart alone that end its next slot are its switch and the slot's own.
 pub fn one_slot()
@@ -17,9 +17,11 @@ pub fn slots()
     ensures order { SwitchOrderLaw }
 {}
 
-/// In any other order of events, too, slots may be run whole and their events counted off.
+/// In any other order of events, too, slots may be run whole and their events counted off:
+/// so in the order that a seed draws.
 pub fn any_order()
     ensures counted { CountedOffLaw }
+    ensures drawn { DrawnBySlotsLaw }
 {}
 
 /// What all of this says of each part of the machine, at every moment; of the kernel's

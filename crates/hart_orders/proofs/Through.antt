@@ -44,6 +44,18 @@ slots_begun i r h is order below outside =
     ∙ ap (slots_of h) (begins_is i r h is s time)
     ∙ ap (λ (x : Progress). x.slots) (progress-same h s (begun_world i h s) (slots_of h s) true)
 
+-- so many steps lead past the end of a slot, each of which begins before it
+abbrev pub EndsIn : Setting → ℕ → ℕ → Local → Type 0
+EndsIn w end zero x = end ≤ x.clock
+EndsIn w end (suc n) x = (x.clock < end) × EndsIn w end n (step w end x)
+
+-- in one way at most
+pub ends_once : (w : Setting) (end n k : ℕ) (x : Local) → EndsIn w end n x → EndsIn w end k x → n ≡ k
+ends_once w end zero zero x past over = refl
+ends_once w end zero (suc k) x past (early, rest) = absurd (omega (arith, past, early))
+ends_once w end (suc n) zero x (early, rest) past = absurd (omega (arith, past, early))
+ends_once w end (suc n) (suc k) x (early, rest) (also, more) = ap (λ (m : ℕ). suc m) (ends_once w end n k (step w end x) rest more)
+
 abbrev made : Storage → Dom → Caches → ℕ → Local
 made storage d c n = record { dom = d; storage = storage; caches = c; clock = n }
 
@@ -163,6 +175,7 @@ module _ (i : Image) (r : Runnable i) (h : ℕ) where
     -- so many of them
     pub record Whole (s : Harts) : Type 0 where
       pub events : ℕ
+      pub ends : EndsIn own end events (part_of h d s.world)
       pub ran : Ran k stretch s (after i (replicate events h) s)
       pub past : end ≤ clock_of h (after i (replicate events h) s).world
 
@@ -172,6 +185,7 @@ module _ (i : Image) (r : Runnable i) (h : ℕ) where
     unfolding after_by
     none_left s run ended past = record {
       events = 0;
+      ends = past;
       ran = record {
         part = sym (stretch_done own timed end (part_of h d s.world) past);
         doms = λ e other. refl;
@@ -190,6 +204,7 @@ module _ (i : Image) (r : Runnable i) (h : ℕ) where
         let one = one_event s run far in
         record {
           events = suc rest.events;
+          ends = ((in_it s run far).soon, subst (EndsIn own end rest.events) one.part rest.ends);
           ran = record {
             part = rest.ran.part ∙ ap (λ (x : Local). stretch own end x) one.part
                 ∙ sym (stretch_step own timed end (part_of h d s.world) (in_it s run far).soon);

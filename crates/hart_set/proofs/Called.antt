@@ -36,8 +36,8 @@ pub record GoesFrom (v : Raw × State) (h : ℕ) (where_it_is : Option Slot) : T
   pub slots : AtHart v.1 h (λ x. x.slots < 65536)
 
 -- and after as many more as end a slot
-abbrev pub SlotEnds : Image → ℕ → State → State → Type 0
-SlotEnds i h t t' = (order : List ℕ) → AreHartsOf i order → StandsFor i (harts i order) t → EndsSlot i order h t'
+abbrev pub SlotEnds : Image → (h events : ℕ) → State → State → Type 0
+SlotEnds i h events t t' = (order : List ℕ) → AreHartsOf i order → StandsFor i (harts i order) t → EndsSlot i order h events t'
 
 module _ (image : Raw) (t : State) (v : Raw × State) (view : (image, t) ≡ v) where
   -- what the value says is so of what stands inside, and back

@@ -1,5 +1,5 @@
 -- Events of the domain whose slot a hart is in, as the code finds and leaves it.
-use Rattle.std.proofs.Common.{true, false, ◌≡◌, ◌∙◌, ℕ, ◌^◌, ◌<◌, ◌≤◌, List, ◌++◌, replicate, Option, Some, length, ◌⊎◌, inl, inr, sym, ap, subst, arith}
+use Rattle.std.proofs.Common.{true, false, ◌≡◌, ◌∙◌, ℕ, zero, suc, ◌^◌, ◌<◌, ◌≤◌, List, ◌++◌, replicate, Option, Some, length, ◌⊎◌, inl, inr, sym, ap, subst, arith}
 use Rattle.std.specs.Prelude.{slice_get, slice_index_or}
 use Rattle.repl_policy.specs.Members.{any_rule, any_stands_for}
 use Rattle.mem_system.specs.Contents.{system}
@@ -7,24 +7,30 @@ use Rattle.image_check.specs.Image.{Image, own_of}
 use Rattle.kernel_call.specs.declared.domain.Domain.{Domain}
 use Rattle.kernel_call.specs.Models.{CountsUpTo}
 use Rattle.world_view.specs.Machine.{Local, Setting, setting, step, stretch, part_of}
-use Rattle.world_view.specs.Harts.{Harts, Progress, harts, next, after, domain_in, progress_of, slots_of, hart_of_domain}
+use Rattle.world_view.specs.Harts.{Harts, Progress, harts, next, after, domain_in, end_on, progress_of, slots_of, hart_of_domain}
 use Rattle.world_view.specs.HartLaws.{AreHartsOf}
 use Rattle.world_view.proofs.harts.OnHart.{hart_is}
 use Rattle.world_view.proofs.harts.Runs.{Running}
 use Rattle.world_view.proofs.harts.Isolation.{running}
 use Rattle.world_view.proofs.harts.Clocks.{hart_between}
 use Rattle.world_view.proofs.time.ClockLaws.{end_soon}
-use Rattle.domain_step.specs.Moves.{Moves, Runs}
+use Rattle.domain_step.specs.Moves.{Happen, Moves, MovesAlong, Runs}
 use Rattle.domain_step.proofs.Elements.{each_set_kept}
 use Rattle.hart_orders.specs.declared.hart.Slot.{Slot}
 use Rattle.hart_orders.specs.declared.hart.Hart.{Hart as CodeHart}
 use Rattle.hart_set.specs.declared.set.State.{State}
 use Rattle.hart_set.specs.Standing.{StandsFor, IsInBounds}
+use Rattle.hart_set.specs.Slots.{EndsSlot}
 use Rattle.hart_set.specs.Reached.{IsReached}
 use Rattle.hart_set.proofs.Bounds.{IsCounted, in_bounds_next}
 use Rattle.hart_set.proofs.Called.{Called, NextStands, SlotEnds, domain_read, s, run, its, few, pushed, own_more, reached_after, reached_next}
-use Rattle.hart_orders.proofs.Through.{Ran, one_event, whole, harts_appended}
+use Rattle.hart_orders.proofs.Through.{Ran, EndsIn, ends_once, one_event, whole, harts_appended}
 use Rattle.hart_set.proofs.Running.{StepEnd, Stepped, GoesOn, IsOver, at, far, slot_domain, early, begun, stands_stepped}
+
+-- events that come past the end
+past_end : (w : Setting) (end n : ℕ) (s x : Local) → Happen w end end n s x → end ≤ x.clock → EndsIn w end n s
+past_end w end zero s x here past = subst (λ (y : Local). end ≤ y.clock) (sym here) past
+past_end w end (suc n) s x (early, rest) past = (early, past_end w end n (step w end s) x rest past)
 
 module _ (i : Image) (t : State) (h : ℕ) (x : CodeHart) (c : Called i t h x) (slot : Slot) (inside : x.slot ≡ Some slot) where
   pub domain_there : slot.domain < length t.domains.items
@@ -136,9 +142,24 @@ module _ (i : Image) (t : State) (h : ℕ) (x : CodeHart) (c : Called i t h x) (
 
       -- ---- all up to the slot's end
 
-      module _ (moved : Moves any_rule any_stands_for (λ w. stretch w slot.end) t.memory y (system x.core t.l2) x.clock
-          z.memory z.domain (system z.core z.l2) z.clock) where
-        pub gone_through : SlotEnds i h t t'
+      module _ (events : ℕ) (moved : Moves any_rule any_stands_for (λ w. stretch w slot.end) t.memory y (system x.core t.l2) x.clock
+          z.memory z.domain (system z.core z.l2) z.clock)
+          (along : MovesAlong any_rule any_stands_for slot.end slot.end events t.memory y (system x.core t.l2) x.clock
+          z.memory z.domain (system z.core z.l2) z.clock) (past : slot.end ≤ z.clock) where
+        -- any harts that it stood for come past the end with as many
+        so_many : (u : Harts) → Running i c.reached.accepted u → StandsFor i u t →
+            let d = domain_in i h (slots_of h u) in
+            EndsIn (setting i.all.hardware (own_of i d) false) (end_on i h (slots_of h u)) events (part_of h d u.world)
+        so_many u so stands =
+            let r = c.reached.accepted in
+            let d = domain_in i h (slots_of h u) in
+            let w = setting i.all.hardware (own_of i d) false in
+            let went = along w (part_of h d u.world) (begun i r u t so stands h c.below x c.got slot inside y got_y) in
+            let now = went.stands_in.time in
+            subst (λ (end : ℕ). EndsIn w end events (part_of h d u.world)) (at i r u t so stands h c.below x c.got slot inside).until
+            (past_end w slot.end events (part_of h d u.world) went.state went.each (omega (arith, past, now)))
+
+        pub gone_through : SlotEnds i h events t t'
         gone_through order of_harts stands =
             let r = c.reached.accepted in
             let u = harts i order in
@@ -147,17 +168,21 @@ module _ (i : Image) (t : State) (h : ℕ) (x : CodeHart) (c : Called i t h x) (
             let more = replicate all.events h in
             let same : harts i (order ++ more) ≡ after i more u = harts_appended i order more in
             let ended = ap (progress_of h) same ∙ all.ran.over all.past in
-            record {
-              events = all.events;
+            let d = domain_in i h (slots_of h u) in
+            let count =
+            ends_once (setting i.all.hardware (own_of i d) false) (end_on i h (slots_of h u)) all.events events (part_of h d u.world)
+            all.ends (so_many u so stands) in
+            subst (λ (n : ℕ). EndsSlot i order h n t') count
+            (record {
               stands = subst (λ (v : Harts). StandsFor i v t') (sym same) (now_stands stretch moved u (after i more u) so stands all.ran);
               slots = ap (λ (q : Progress). q.slots) ended;
               between =
                   hart_between i h (order ++ more) r (own_more i t h x c order all.events of_harts) c.below
                   (ap (λ (q : Progress). q.inside) ended);
-            }
+            })
 
         pub reached_through : x.slots < 65536 → CountsUpTo z.clock z.domain → x.clock < z.clock
             → IsReached i t'
         reached_through not_last counted later =
             let ends = gone_through c.reached.order c.reached.of_harts c.reached.stands in
-            reached_after i t h x c t' ends.events ends.stands (bounds not_last counted later)
+            reached_after i t h x c t' events ends.stands (bounds not_last counted later)

@@ -10,6 +10,8 @@ pub mod Seen
 pub mod Loaded
 pub mod RunSeen
 pub mod Standing
-pub mod RunOn
 pub mod First
+pub mod Paused
 pub mod BySlots
+pub mod DrawnSlots
+pub mod LeftHarts

@@ -1,5 +1,5 @@
 -- What is seen after a run, whatever the choice.
-use Rattle.std.proofs.Common.{◌≡◌, ◌∙◌, ℕ, List, refl, ap₂, sym, subst, arith}
+use Rattle.std.proofs.Common.{◌≡◌, ◌∙◌, ℕ, List, ap₂, sym, subst, arith}
 use Rattle.image_record.specs.Record.{Raw}
 use Rattle.image_check.specs.Image.{Image, own_of}
 use Rattle.image_check.specs.Laws.{Runnable}
@@ -11,30 +11,17 @@ use Rattle.world_view.specs.Harts.{Harts, IsOnOneHart, view_on}
 use Rattle.world_view.specs.Laws.{SameWorld}
 use Rattle.domain_step.specs.Usage.{IsUsed}
 use Rattle.hart_orders.specs.declared.choice.Choice.{Choice}
-use Rattle.hart_orders.specs.declared.choice.Choice.TheVariants.{LeastClock}
-use Rattle.hart_orders.specs.Order.{order_of, ran}
+use Rattle.hart_orders.specs.declared.choice.Choice.TheVariants.{LeastClock, Drawn}
+use Rattle.hart_orders.specs.Order.{ran}
 use Rattle.hart_orders.proofs.ChoiceLaws.{one_hart_run}
-use Rattle.hart_machine.specs.Laws.{SameReport, slot_by_slot}
+use Rattle.hart_machine.specs.Laws.{SameReport, slot_by_slot, drawn_slot_by_slot}
 use Rattle.hart_machine.proofs.Reports.{slots}
+use Rattle.hart_machine.proofs.DrawnOrder.{drawn_by_slots}
 use Rattle.hart_set.specs.declared.set.State.{State}
 use Rattle.hart_set.specs.Models.{image_of, harts_after, StandsAfter}
 use Rattle.hart_set.specs.Run.{StandsAt, HasRun}
 
 -- ---- harts that have run
-
-same_itself : (i : Image) (w : World) → SameReport i w w
-same_itself i w = record { seen = λ d id. refl; used = refl; clocks = λ h there. refl }
-
--- event by event, in the choice's own order
-pub run_so : (v : Raw × State) (c : Choice) (n : ℕ) → Runnable (image_of v)
-    → StandsAfter v (order_of (image_of v) c n) → HasRun v c n
-unfolding ran
-run_so v c n r stands = record {
-  accepted = r;
-  order = order_of (image_of v) c n;
-  same = same_itself (image_of v) (harts_after v (order_of (image_of v) c n)).world;
-  stands = stands;
-}
 
 -- slot by slot
 pub run_slots : (v : Raw × State) (n : ℕ) → Runnable (image_of v)
@@ -45,6 +32,18 @@ run_slots v n r at = record {
   same =
       subst (λ (x : Harts). SameReport (image_of v) (ran (image_of v) LeastClock n) x.world) (sym at.leads)
       (slots (image_of v) n r);
+  stands = at.stands;
+}
+
+-- slot by slot in the order that a seed draws
+pub run_drawn : (v : Raw × State) (seed n : ℕ) → Runnable (image_of v)
+    → StandsAt v (drawn_slot_by_slot (image_of v) seed n).world → HasRun v (Drawn seed) n
+run_drawn v seed n r at = record {
+  accepted = r;
+  order = at.order;
+  same =
+      subst (λ (x : Harts). SameReport (image_of v) (ran (image_of v) (Drawn seed) n) x.world) (sym at.leads)
+      (drawn_by_slots (image_of v) seed n r).0;
   stands = at.stands;
 }
 

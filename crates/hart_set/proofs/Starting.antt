@@ -180,20 +180,19 @@ module _ (i : Image) (t : State) (h : ℕ) (x : CodeHart) (c : Called i t h x) (
 
 -- ---- and then the slot, to its end
 
-pub through_begun : (i : Image) → Runnable i → (t t' later : State) (h : ℕ) (x : CodeHart) → h < harts_in i.all.schedule
+pub through_begun : (i : Image) → Runnable i → (t t' later : State) (h events all : ℕ) (x : CodeHart) → all ≡ suc events → h < harts_in i.all.schedule
     → slice_get t.harts.items h ≡ Some x → x.slot ≡ None
-    → NextStands i h t t' → SlotEnds i h t' later → SlotEnds i h t later
-through_begun i r t t' later h x below got between begins ends order of_harts stands =
+    → NextStands i h t t' → SlotEnds i h events t' later → SlotEnds i h all t later
+through_begun i r t t' later h events all x one_more below got between begins ends order of_harts stands =
     let s = harts i order in
     let begun = order ++ h ∷ [] in
     let outside = in_none (progress_of h s).inside _ _ (sym between ∙ (stands.each_hart h x got).slot) in
     let slots : slots_of h (harts i begun) ≡ slots_of h s = ap (slots_of h) (next_law i order h) ∙ slots_begun i r h below order of_harts outside in
     let rest = ends begun (All-push (λ (g : ℕ). g < harts_in i.all.schedule) order h of_harts below) (begins order of_harts stands) in
-    let all : begun ++ replicate rest.events h ≡ order ++ replicate (suc rest.events) h =
-    append_assoc order (h ∷ []) (replicate rest.events h) in
+    let whole : begun ++ replicate events h ≡ order ++ replicate all h =
+    append_assoc order (h ∷ []) (replicate events h) ∙ ap (λ (n : ℕ). order ++ replicate n h) (sym one_more) in
     record {
-      events = suc rest.events;
-      stands = subst (λ (o : List ℕ). StandsFor i (harts i o) later) all rest.stands;
-      slots = ap (λ (o : List ℕ). slots_of h (harts i o)) (sym all) ∙ rest.slots ∙ ap suc slots;
-      between = subst (λ (o : List ℕ). IsBetween i h (harts i o)) all rest.between;
+      stands = subst (λ (o : List ℕ). StandsFor i (harts i o) later) whole rest.stands;
+      slots = ap (λ (o : List ℕ). slots_of h (harts i o)) (sym whole) ∙ rest.slots ∙ ap suc slots;
+      between = subst (λ (o : List ℕ). IsBetween i h (harts i o)) whole rest.between;
     }

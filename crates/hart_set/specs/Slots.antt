@@ -8,8 +8,7 @@ use Rattle.hart_set.specs.Standing.{StandsFor}
 
 -- whatever the order of events before, it stands for the harts after so many more events of this one alone, with which a slot
 -- of it has ended, and the next has not begun
-pub record EndsSlot (i : Image) (order : List ℕ) (h : ℕ) (t : State) : Type 0 where
-  pub events : ℕ
+pub record EndsSlot (i : Image) (order : List ℕ) (h events : ℕ) (t : State) : Type 0 where
   pub stands : StandsFor i (harts i (order ++ replicate events h)) t
   pub slots : slots_of h (harts i (order ++ replicate events h)) ≡ suc (slots_of h (harts i order))
   pub between : IsBetween i h (harts i (order ++ replicate events h))

@@ -1,12 +1,12 @@
 // Which hart is next: the one with the least clock, or the one that a word names.
-ghost use Rattle.std.specs.Prelude.{◌≡◌, ◌⊎◌, ℕ, ◌<◌, ◌≤◌, List, length, slice_get, Some, IfSome};
+ghost use Rattle.std.specs.Prelude.{◌≡◌, ◌⊎◌, ℕ, ◌<◌, ◌≤◌, List, Some, IfSome};
+ghost use Rattle.tp_base.specs.Table.{Table};
 ghost use Rattle.sched_table.specs.Schedule.{harts_in};
 ghost use Rattle.hart_set.specs.Models.{image_of, harts_after, StandsAfter};
 ghost use Rattle.hart_set.specs.Standing.{AtHart};
 ghost use Rattle.event_orders.specs.Orders as orders;
 ghost use Rattle.hart_machine.specs.HartMachine.{machine_of};
-ghost use Rattle.hart_orders.specs.Order as spec;
-ghost use Rattle.hart_set.specs.Choosers.{left_in};
+ghost use Rattle.hart_set.specs.Choosers.{Owes, left_in, names_in};
 
 use crate::set::HartSet;
 
@@ -47,53 +47,50 @@ pub fn first(harts: &HartSet<'_>, slots: u32) -> Option<u8>
     first
 }
 
-// How many harts have had fewer slots.
-fn count_left(harts: &HartSet<'_>, slots: u32) -> u32
-    ensures count { (order : List ℕ) → StandsAfter harts.now order
-        → result ≡ length (left_in harts.now order slots) }
-{
-    let mut count = 0;
-    for h in 0..harts.harts() {
-        if harts.slots(h) < slots {
-            count += 1;
-        }
-    }
-    count
+/// Harts by their numbers, ascending.
+#[derive(Clone, Copy)]
+pub struct Names {
+    numbers: [u8; 4],
+    many: usize,
 }
 
-// Of the harts that have had fewer slots, the one at this place, from 0.
-fn left_at(harts: &HartSet<'_>, slots: u32, place: u32) -> Option<u8>
-    requires few { slots ≤ 65536 }
-    ensures at { (order : List ℕ) → StandsAfter harts.now order
-        → result ≡ slice_get (left_in harts.now order slots) place }
-    ensures hart { IfSome result (λ h. h < harts_in (image_of harts.now).all.schedule) }
-    ensures slots { IfSome result (λ h. AtHart harts.now.1 h (λ x. x.slots < 65536)) }
+// Whether a hart has had fewer slots, or owes an event.
+fn is_left(harts: &HartSet<'_>, h: u8, slots: u32, owed: u64) -> bool
+    requires hart { h < harts_in (image_of harts.now).all.schedule }
+    ensures left { (order : List ℕ) → StandsAfter harts.now order
+        → result ≡ orders.is_owed_or (orders.has_left (machine_of (image_of harts.now)) slots
+        (harts_after harts.now order) h) owed }
 {
-    let mut before = 0;
-    for h in 0..harts.harts() {
-        if harts.slots(h) < slots {
-            if before == place {
-                return Some(h);
-            }
-            before += 1;
-        }
+    if owed == 0 {
+        return harts.slots(h) < slots;
     }
-    None
+    true
 }
 
-/// Of the harts that have had fewer slots, the one that a word names: none, where each
-/// has had so many.
-#[tactic(auto, unfolding(hart_orders::specs::Order::drawn))]
-pub fn drawn(harts: &HartSet<'_>, slots: u32, word: u32) -> Option<u8>
-    requires few { slots ≤ 65536 }
-    ensures drawn { (order : List ℕ) → StandsAfter harts.now order
-        → result ≡ spec.drawn word (left_in harts.now order slots) }
-    ensures hart { IfSome result (λ h. h < harts_in (image_of harts.now).all.schedule) }
-    ensures slots { IfSome result (λ h. AtHart harts.now.1 h (λ x. x.slots < 65536)) }
+/// The harts that have had fewer slots, or of which so many events are owed.
+pub fn left(harts: &HartSet<'_>, slots: u32, owed: [u64; 4]) -> Names
+    ensures names { (order : List ℕ) (table : Table ℕ) → StandsAfter harts.now order
+        → Owes (image_of harts.now) owed table → names_in result ≡ left_in harts.now order table slots }
+    ensures few { result.many ≤ 4 }
 {
-    let many = count_left(harts, slots);
-    if many == 0 {
+    let mut numbers = [0; 4];
+    let mut many = 0;
+    for h in 0..harts.harts() {
+        if is_left(harts, h, slots, owed[usize::from(h)]) {
+            numbers[many] = h;
+            many += 1;
+        }
+    }
+    Names { numbers, many }
+}
+
+/// The one that a word names: none of none.
+pub fn named(names: &Names, word: u32) -> Option<u8>
+    requires few { names.now.many ≤ 4 }
+    ensures named { result ≡ orders.named word (names_in names.now) }
+{
+    if names.many == 0 {
         return None;
     }
-    left_at(harts, slots, word % many)
+    Some(names.numbers[word as usize % names.many])
 }

@@ -4,9 +4,9 @@
 //! events.
 //!
 //! And an image's harts for so many slots of each, where the hart whose event is next is that
-//! of the least clock, or one that a seed draws. By clocks a hart has its next slot whole as
-//! soon as its switch comes: so the switches come in the order of the clocks, and what is seen
-//! is what the order event by event leads to.
+//! of the least clock, or one that a seed draws. A hart has its next slot whole as soon as its
+//! switch comes, and where a seed draws, later draws of it count the slot's events off: so the
+//! switches come as they do event by event, and what is seen is what that order leads to.
 #![tactic(auto)]
 
 mod choice;

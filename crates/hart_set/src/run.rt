@@ -4,10 +4,10 @@ ghost use Rattle.image_check.specs.Image.{image_from};
 ghost use Rattle.sched_table.specs.Schedule.{harts_in};
 ghost use Rattle.hart_set.specs.Models.{image_of as image_of_set, StandsAfter};
 ghost use Rattle.hart_orders.specs.Order as spec;
-ghost use Rattle.hart_machine.specs.Laws.{slot_by_slot};
+ghost use Rattle.hart_machine.specs.Laws.{slot_by_slot, drawn_slot_by_slot};
 ghost use Rattle.hart_set.specs.Run.{StandsAt, HasRun};
 
-use crate::choice::{drawn, first};
+use crate::choice::{first, left, named};
 use crate::set::HartSet;
 use domain_view::View;
 use hart_orders::Choice;
@@ -69,20 +69,33 @@ fn run_by_slots(harts: &mut HartSet<'_>, slots: u32)
     }
 }
 
-// Runs them in the order that a seed draws.
+// Runs them in the order that a seed draws. A hart has its next slot whole where its switch
+// is drawn, and each later draw counts off one of the slot's events.
 fn run_drawn(harts: &mut HartSet<'_>, seed: u32, slots: u32)
     requires few { slots ≤ 65536 }
     requires first { StandsAfter harts.old [] }
     ensures image { harts.new.0 ≡ harts.old.0 }
-    ensures stands { StandsAfter harts.new (spec.order_of (image_of_set harts.old) (Choice.Drawn seed) slots) }
+    ensures slots { StandsAt harts.new (drawn_slot_by_slot (image_of_set harts.new) seed slots).world }
 {
+    harts.image().runnable();
     let most = cycles_before(harts.image(), slots);
     let mut words = seeded(u64::from(seed));
+    let mut owed = [0; 4];
+    let mut names = left(harts, slots, owed);
     for _ in 0..most {
-        let Some(h) = drawn(harts, slots, draw(&mut words)) else {
+        let Some(h) = named(&names, draw(&mut words)) else {
             return;
         };
-        harts.step(h);
+        let at = usize::from(h);
+        if 1 < owed[at] {
+            owed[at] -= 1;
+        } else if owed[at] == 1 {
+            owed[at] = 0;
+            names = left(harts, slots, owed);
+        } else {
+            owed[at] = harts.run_slot(h) - 1;
+            names = left(harts, slots, owed);
+        }
     }
 }
 

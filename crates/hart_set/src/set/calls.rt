@@ -134,7 +134,9 @@ impl<'a> HartSet<'a> {
     {
         let at = usize::from(h);
         match self.state.harts[at].slot {
-            Some(slot) => self.advance(at, slot, Stride::Event),
+            Some(slot) => {
+                self.advance(at, slot, Stride::Event);
+            }
             None => {
                 self.begin(at);
             }
@@ -142,21 +144,22 @@ impl<'a> HartSet<'a> {
     }
 
     /// Runs a hart to the end of the slot that it is in, or of its next one where it is in
-    /// none: events of it, none of another's between them. Never allocates.
-    pub fn run_slot(&mut self, h: u8)
+    /// none: events of it, none of another's between them. Answers how many, with the switch
+    /// where there was one. Never allocates.
+    pub fn run_slot(&mut self, h: u8) -> u64
         requires hart { h < harts_in (image_of self.old).all.schedule }
         requires slots { AtHart self.old.1 h (λ x. x.slots < 65536) }
         ensures image { self.new.0 ≡ self.old.0 }
         ensures ends { (order : List ℕ) → AreHartsOf (image_of self.old) order
             → StandsFor (image_of self.old) (spec.harts (image_of self.old) order) self.old.1
-            → EndsSlot (image_of self.old) order h self.new.1 }
+            → EndsSlot (image_of self.old) order h result self.new.1 }
     {
         let at = usize::from(h);
-        let slot = match self.state.harts[at].slot {
-            Some(slot) => slot,
-            None => self.begin(at),
-        };
-        self.advance(at, slot, Stride::Slot);
+        if let Some(slot) = self.state.harts[at].slot {
+            return self.advance(at, slot, Stride::Slot);
+        }
+        let slot = self.begin(at);
+        1 + self.advance(at, slot, Stride::Slot)
     }
 
     // The switch into a hart's next slot, which it answers. It stands apart, since a step
@@ -203,9 +206,10 @@ impl<'a> HartSet<'a> {
     }
 
     // Events of the domain whose slot a hart is in. All of a hart's events but its switches
-    // are this one call, so that the code of an instruction stands in one place.
+    // are this one call, so that the code of an instruction stands in one place. Answers how
+    // many they were.
     #[inline(never)]
-    fn advance(&mut self, h: usize, slot: Slot, stride: Stride)
+    fn advance(&mut self, h: usize, slot: Slot, stride: Stride) -> u64
         requires hart { h < harts_in (image_of self.old).all.schedule }
         requires inside { AtHart self.old.1 h (λ x. x.slot ≡ Some slot) }
         requires slots { AtHart self.old.1 h (λ x. x.slots < 65536) }
@@ -215,11 +219,12 @@ impl<'a> HartSet<'a> {
             → StandsFor (image_of self.old) (spec.harts (image_of self.old) (order ++ h ∷ [])) self.new.1 }
         ensures ends { stride ≡ Stride.Slot → (order : List ℕ) → AreHartsOf (image_of self.old) order
             → StandsFor (image_of self.old) (spec.harts (image_of self.old) order) self.old.1
-            → EndsSlot (image_of self.old) order h self.new.1 }
+            → EndsSlot (image_of self.old) order h result self.new.1 }
+        ensures few { result < 2 ^ 63 }
     {
         let hart = &mut self.state.harts[h];
         let until = until(stride, hart.clock, slot.end);
-        hart.clock = run_until(
+        let ran = run_until(
             &mut self.state.memory,
             &mut hart.core,
             &mut self.state.l2,
@@ -228,10 +233,12 @@ impl<'a> HartSet<'a> {
             until,
             slot.end,
         );
+        hart.clock = ran.clock;
         if slot.end <= hart.clock {
             hart.slots += 1;
             hart.slot = None;
         }
+        ran.events
     }
 
     // What a hart's next switch goes by, and its next slot.

@@ -1,7 +1,9 @@
 -- One instruction more, and as much of the slot is left.
-use Rattle.std.proofs.Common.{◌≤◌, ◌^◌, ℕ, refl, sym, subst, ◌∙◌, arith}
+use Rattle.std.proofs.Common.{◌≡◌, ◌+◌, ◌≤◌, ◌^◌, ℕ, true, refl, sym, subst, ◌∙◌, arith}
 use Rattle.domain_step.proofs.Moved.{plain_on, along_none, along_then, along_step}
 use Rattle.mem_system.specs.Contents.{system}
+use Rattle.domain_step.specs.Moves.{MovesAlong}
+use Rattle.domain_step.proofs.Retired.{so_many, none_yet, one_more, all_retired, but_one}
 use Rattle.domain_step.proofs.slot.run_plain.Goals as goal
 
 pub loop-goes_on-init : goal.loop-goes_on-init
@@ -15,9 +17,14 @@ loop-goes_on-init g c = record {
   hierarchy = refl;
   pinned = refl;
   runs = c.requires.runs;
+  more = omega arith;
+  apart = omega arith;
   along = λ end.
-      along_none g.P.Policy.rule g.P.Policy.stands_for end c.args.until c.args.memory.now c.args.domain.now
-      (system c.args.core.now c.args.l2.now) c.args.now;
+      subst (λ (n : ℕ). MovesAlong g.P.Policy.rule g.P.Policy.stands_for end c.args.until n c.args.memory.now c.args.domain.now
+      (system c.args.core.now c.args.l2.now) c.args.now c.args.memory.now c.args.domain.now
+      (system c.args.core.now c.args.l2.now) c.args.now) (sym (none_yet c.args.domain.now true refl))
+      (along_none g.P.Policy.rule g.P.Policy.stands_for end c.args.until c.args.memory.now c.args.domain.now
+      (system c.args.core.now c.args.l2.now) c.args.now);
 }
 
 pub run-ran-requires : goal.run-ran-requires
@@ -39,6 +46,10 @@ loop-goes_on-preserved g c =
     let here = c.loop-goes_on in
     let inv = here.invariant in
     let ran = c.run-ran in
+    let sum : so_many c.args.domain.now ran.new.domain ran.result.goes_on
+    ≡ so_many c.args.domain.now here.domain here.goes_on + 1 =
+    one_more c.args.domain.now here.domain ran.new.domain here.goes_on ran.result.goes_on c.loop-goes_on-test.true inv.more
+    ran.ensures.retired in
     record {
       few = ran.ensures.few;
       soon = omega (arith, ran.ensures.soon, c.if-clock-until.true);
@@ -50,13 +61,32 @@ loop-goes_on-preserved g c =
       hierarchy = ran.ensures.hierarchy ∙ inv.hierarchy;
       pinned = ran.ensures.pinned ∙ inv.pinned;
       runs = ran.ensures.runs;
+      more = omega (arith, inv.more, ran.ensures.retired);
+      apart = omega (arith, sum, inv.apart, ran.ensures.later);
       along = λ end.
           along_then g.P.Policy.rule g.P.Policy.stands_for end c.args.until c.args.memory.now here.memory ran.new.memory
           c.args.domain.now here.domain ran.new.domain (system c.args.core.now c.args.l2.now)
           (system here.core here.l2) (system ran.new.core ran.new.l2)
-          c.args.now here.clock ran.result.clock c.args.until (omega arith) (inv.along end)
+          c.args.now here.clock ran.result.clock c.args.until (so_many c.args.domain.now here.domain here.goes_on) 1
+          (so_many c.args.domain.now ran.new.domain ran.result.goes_on) (omega arith) sum (inv.along end)
           (along_step g.P.Policy.rule g.P.Policy.stands_for end c.args.until here.memory here.domain
           (system here.core here.l2) here.clock
           ran.new.memory ran.new.domain (system ran.new.core ran.new.l2) ran.result.clock c.if-clock-until.true
           (ran.ensures.becomes end));
     }
+
+pub returns-then-goes_on-clause-along : goal.returns-then-goes_on-clause-along
+returns-then-goes_on-clause-along g c end =
+    let here = c.loop-goes_on in
+    let inv = here.invariant in
+    subst (λ (n : ℕ). MovesAlong g.P.Policy.rule g.P.Policy.stands_for end c.args.until n c.args.memory.now c.args.domain.now
+    (system c.args.core.now c.args.l2.now) c.args.now here.memory here.domain (system here.core here.l2) here.clock)
+    (all_retired c.args.domain.now here.domain here.goes_on c.if-goes_on.true) (inv.along end)
+
+pub returns-clause-along : goal.returns-clause-along
+returns-clause-along g c end =
+    let here = c.loop-goes_on in
+    let inv = here.invariant in
+    subst (λ (n : ℕ). MovesAlong g.P.Policy.rule g.P.Policy.stands_for end c.args.until n c.args.memory.now c.args.domain.now
+    (system c.args.core.now c.args.l2.now) c.args.now here.memory here.domain (system here.core here.l2) here.clock)
+    (but_one c.args.domain.now here.domain here.goes_on c.if-goes_on.false) (inv.along end)

@@ -1,4 +1,4 @@
-use Rattle.std.proofs.Common.{◌<◌, ◌≤◌, ◌^◌, ℕ, refl, ap, sym, subst, ◌∙◌, arith}
+use Rattle.std.proofs.Common.{◌+◌, ◌<◌, ◌≤◌, ◌^◌, ℕ, refl, ap, sym, subst, ◌∙◌, arith}
 use Rattle.cycle_cost.specs.Costs.{CostTable}
 use Rattle.domain_step.proofs.Moved.{along_none, along_then, along_step, along_whole, along_once}
 use Rattle.mem_system.specs.Contents.{system}
@@ -16,10 +16,11 @@ loop-clock-init g c = record {
   so_far =
       along_none g.P.Policy.rule g.P.Policy.stands_for c.args.end c.args.until c.args.memory.now c.args.domain.now
       (system c.args.core.now c.args.l2.now) c.args.now;
+  apart = omega arith;
 }
 
-pub run_plain-clock-requires : goal.run_plain-clock-requires
-run_plain-clock-requires g c =
+pub run_plain-ran-requires : goal.run_plain-ran-requires
+run_plain-ran-requires g c =
     let inv = c.loop-clock.invariant in
     let plain = c.plain_until-plain.ensures in
     record {
@@ -47,7 +48,7 @@ wait_or_deliver-clock-requires g c =
 
 pub loop-clock-smaller-then-clock-plain : goal.loop-clock-smaller-then-clock-plain
 loop-clock-smaller-then-clock-plain g c =
-    omega (arith, c.run_plain-clock.ensures.later, c.loop-clock-test.true)
+    omega (arith, c.run_plain-ran.ensures.later, c.loop-clock-test.true)
 
 pub loop-clock-smaller : goal.loop-clock-smaller
 loop-clock-smaller g c =
@@ -57,7 +58,7 @@ pub loop-clock-preserved-then-clock-plain : goal.loop-clock-preserved-then-clock
 loop-clock-preserved-then-clock-plain g c =
     let here = c.loop-clock in
     let inv = here.invariant in
-    let ran = c.run_plain-clock in
+    let ran = c.run_plain-ran in
     let within = c.plain_until-plain.ensures.within in
     record {
       few = ran.ensures.few;
@@ -71,7 +72,9 @@ loop-clock-preserved-then-clock-plain g c =
           along_then g.P.Policy.rule g.P.Policy.stands_for c.args.end c.args.until c.args.memory.now here.memory ran.new.memory
           c.args.domain.now here.domain ran.new.domain (system c.args.core.now c.args.l2.now)
           (system here.core here.l2) (system ran.new.core ran.new.l2)
-          c.args.now here.clock ran.result c.plain_until-plain.result within inv.so_far (ran.ensures.along c.args.end);
+          c.args.now here.clock ran.result.clock c.plain_until-plain.result here.events ran.result.events
+          (here.events + ran.result.events) within refl inv.so_far (ran.ensures.along c.args.end);
+      apart = omega (arith, inv.apart, ran.ensures.apart);
     }
 
 pub loop-clock-preserved : goal.loop-clock-preserved
@@ -91,10 +94,11 @@ loop-clock-preserved g c =
           along_then g.P.Policy.rule g.P.Policy.stands_for c.args.end c.args.until c.args.memory.now here.memory here.memory
           c.args.domain.now here.domain next.new.domain (system c.args.core.now c.args.l2.now)
           (system here.core here.l2) (system next.new.core next.new.l2)
-          c.args.now here.clock next.result c.args.until (omega arith) inv.so_far
+          c.args.now here.clock next.result c.args.until here.events 1 (here.events + 1) (omega arith) refl inv.so_far
           (along_step g.P.Policy.rule g.P.Policy.stands_for c.args.end c.args.until here.memory here.domain
           (system here.core here.l2) here.clock
           here.memory next.new.domain (system next.new.core next.new.l2) next.result c.loop-clock-test.true next.ensures.becomes);
+      apart = omega (arith, inv.apart, next.ensures.later);
     }
 
 pub returns : goal.returns
@@ -112,11 +116,11 @@ returns g c =
       once =
           along_once g.P.Policy.rule g.P.Policy.stands_for c.args.end c.args.until c.args.memory.now c.args.domain.now
           (system c.args.core.now c.args.l2.now) c.args.now base trap
-          here.memory here.domain (system here.core here.l2) here.clock inv.so_far over c.requires.within;
+          here.memory here.domain (system here.core here.l2) here.clock here.events inv.so_far over c.requires.within;
       whole =
           along_whole g.P.Policy.rule g.P.Policy.stands_for c.args.end c.args.until c.args.memory.now c.args.domain.now
           (system c.args.core.now c.args.l2.now) c.args.now base trap
-          here.memory here.domain (system here.core here.l2) here.clock inv.so_far over;
+          here.memory here.domain (system here.core here.l2) here.clock here.events inv.so_far over;
       frames = inv.frames;
       hierarchy = inv.hierarchy;
       pinned = inv.pinned;
@@ -125,4 +129,5 @@ returns g c =
       over = over;
       soon = inv.soon;
       done = inv.still;
+      apart = inv.apart;
     }

@@ -3,12 +3,11 @@ use Rattle.image_record.specs.Record.{Raw}
 use Rattle.image_check.specs.Image.{image_from}
 use Rattle.image_check.specs.Laws.{Runnable}
 use Rattle.world_view.specs.Harts.{IsOnOneHart}
-use Rattle.hart_set.specs.Models.{image_of, StandsAfter}
+use Rattle.hart_set.specs.Models.{image_of}
 use Rattle.hart_orders.specs.declared.choice.Choice.{Choice}
 use Rattle.hart_orders.specs.declared.choice.Choice.TheVariants.{Drawn}
-use Rattle.hart_orders.specs.Order.{order_of}
 use Rattle.hart_set.specs.Run.{HasRun}
-use Rattle.hart_set.proofs.RunSeen.{run_so, run_slots, run_one}
+use Rattle.hart_set.proofs.RunSeen.{run_slots, run_drawn, run_one}
 use Rattle.hart_set.proofs.run.run_all.Goals as goal
 
 pub returns-in-LeastClock : goal.returns-in-LeastClock
@@ -42,11 +41,11 @@ pub returns-else-harts-eq1 : goal.returns-else-harts-eq1
 returns-else-harts-eq1 c =
     let v = c.run_drawn.new.harts in
     let n = c.args.slots in
-    let drawn = Drawn c.in-Drawn.seed in
     let image = sym c.run_drawn.ensures.image in
     let accepted = subst (λ (x : Raw). Runnable (image_from x)) (c.image.ensures.value ∙ image) c.runnable.ensures.runnable in
-    let stands = subst (λ (x : Raw). StandsAfter v (order_of (image_from x) drawn n)) image c.run_drawn.ensures.stands in
     record {
       image = c.run_drawn.ensures.image;
-      run = subst (λ (choice : Choice). HasRun v choice n) (sym c.in-Drawn.is) (run_so v drawn n accepted stands);
+      run =
+          subst (λ (choice : Choice). HasRun v choice n) (sym c.in-Drawn.is)
+          (run_drawn v c.in-Drawn.seed n accepted c.run_drawn.ensures.slots);
     }

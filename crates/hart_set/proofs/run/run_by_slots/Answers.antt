@@ -25,7 +25,7 @@ returns-in_default-clause-slots c =
     let n = c.args.slots in
     let most = c.cycles_before-most.result in
     let way = one_fewer v n most c.loop.counter c.loop-test.true c.loop.invariant.way in
-    over v n (most - (c.loop.counter + 1)) way (sym (c.first.ensures.first way.order way.stands) ∙ c.in_default.is)
+    over v n (most - (c.loop.counter + 1)) way (sym (c.first.ensures.first way.at.order way.at.stands) ∙ c.in_default.is)
 
 pub run_slot-requires : goal.run_slot-requires
 run_slot-requires c = record {
@@ -44,11 +44,11 @@ loop-preserved c =
     let t = c.run_slot.new.self.1 in
     let way = one_fewer v n most c.loop.counter c.loop-test.true c.loop.invariant.way in
     let there = subst (λ (o : Option ℕ). IfSome o (λ g. g < harts_in (image_of v).all.schedule)) c.in-Some.is c.first.ensures.hart in
-    let ends = c.run_slot.ensures.ends way.order way.of_harts way.stands in
+    let ends = c.run_slot.ensures.ends way.at.order way.at.of_harts way.at.stands in
     record {
       image = c.run_slot.ensures.image ∙ c.loop.invariant.image;
       way = subst (λ (x : Raw). OnTheWay (x, t) n f) (sym c.run_slot.ensures.image)
-          (one_more v n f way h there t ends (sym (c.first.ensures.first way.order way.stands) ∙ c.in-Some.is));
+          (one_more v n f way h there c.run_slot.result t ends (sym (c.first.ensures.first way.at.order way.at.stands) ∙ c.in-Some.is));
     }
 
 pub returns-clause-slots : goal.returns-clause-slots

@@ -1,12 +1,14 @@
-use Rattle.std.proofs.Common.{◌≡◌, ◌-◌}
+use Rattle.std.proofs.Common.{◌≡◌, ◌≤◌, ◌-◌, length}
 use Rattle.seed_words.specs.Words.{seeded, after}
-use Rattle.hart_orders.specs.declared.choice.Choice.TheVariants as choice
-use Rattle.hart_set.proofs.RunOn.{SoFar}
+use Rattle.hart_set.specs.Choosers.{names_in}
+use Rattle.hart_set.proofs.DrawnSlots.{OnTheWay}
 use Rattle.hart_set.proofs.run.run_drawn.Given as goal
 
 abbrev pub invariant-loop : goal.invariant-loop
 invariant-loop l = record {
   image : l.harts.0 ≡ l.fn.harts.0;
-  so_far : SoFar l.harts (choice.Drawn l.fn.seed) l.fn.slots (l.most - l.counter)
-      (λ j s. l.words ≡ after j (seeded l.fn.seed));
+  words : l.words ≡ after l.counter (seeded l.fn.seed);
+  four : length l.owed ≡ 4;
+  few : l.names.many ≤ 4;
+  way : OnTheWay l.harts l.fn.seed l.fn.slots l.counter (l.most - l.counter) l.owed (names_in l.names);
 }

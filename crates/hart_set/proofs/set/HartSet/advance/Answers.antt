@@ -1,4 +1,4 @@
-use Rattle.std.proofs.Common.{◌≡◌, ◌∙◌, ℕ, ◌+◌, ◌<◌, Some, None, ◌⊎◌, ap, add-one, slice_get, inl, inr, refl, sym, subst, arith}
+use Rattle.std.proofs.Common.{◌≡◌, ◌∙◌, ℕ, ◌+◌, ◌<◌, ◌≤◌, Some, None, ◌⊎◌, ap, add-one, slice_get, inl, inr, refl, sym, subst, arith}
 use Rattle.std.proofs.Math.ListN.{set}
 use Rattle.image_record.specs.Record.{Raw}
 use Rattle.image_check.specs.Image.{Image, image_from}
@@ -11,6 +11,9 @@ use Rattle.hart_set.specs.Models.{image_of}
 use Rattle.hart_set.proofs.Called.{Called, NextStands, SlotEnds, called, within, at_hart, to_value}
 use Rattle.hart_set.proofs.Running.{StepEnd, GoesOn, IsOver}
 use Rattle.hart_set.proofs.GoingOn.{domain_there, slot_read, before, end_fits, frames_few, runs_here, counted_here, gone_on, reached_on, gone_through, reached_through}
+use Rattle.repl_policy.specs.Members.{any_rule, any_stands_for}
+use Rattle.mem_system.specs.Contents.{system}
+use Rattle.domain_step.specs.Moves.{MovesAlong}
 use Rattle.hart_set.proofs.set.HartSet.advance.Goals.{then-slot-hart, else-slot-hart}
 use Rattle.hart_set.proofs.set.HartSet.advance.Goals as goal
 
@@ -62,24 +65,24 @@ got c =
     slot_read (image_from c.self.inside.image.now) c.self.inside.state c.args.h c.index_mut-hart.result.now (call c) c.args.slot (inside c)
     c.from.result c.index_mut.result.now c.from.ensures c.index_mut.ensures.value
 
-pub run_until-hart-requires-clause-frames : goal.run_until-hart-requires-clause-frames
-run_until-hart-requires-clause-frames c =
+pub run_until-ran-requires-clause-frames : goal.run_until-ran-requires-clause-frames
+run_until-ran-requires-clause-frames c =
     frames_few (image_from c.self.inside.image.now) c.self.inside.state c.args.h c.index_mut-hart.result.now (call c) c.args.slot (inside c)
 
-pub run_until-hart-requires-clause-runs : goal.run_until-hart-requires-clause-runs
-run_until-hart-requires-clause-runs c =
+pub run_until-ran-requires-clause-runs : goal.run_until-ran-requires-clause-runs
+run_until-ran-requires-clause-runs c =
     runs_here (image_from c.self.inside.image.now) c.self.inside.state c.args.h c.index_mut-hart.result.now (call c) c.args.slot (inside c)
     c.index_mut.result.now (got c)
 
-pub run_until-hart-requires-clause-within : goal.run_until-hart-requires-clause-within
-run_until-hart-requires-clause-within c = c.until-until.ensures.within
+pub run_until-ran-requires-clause-within : goal.run_until-ran-requires-clause-within
+run_until-ran-requires-clause-within c = c.until-until.ensures.within
 
-pub run_until-hart-requires-clause-end : goal.run_until-hart-requires-clause-end
-run_until-hart-requires-clause-end c =
+pub run_until-ran-requires-clause-end : goal.run_until-ran-requires-clause-end
+run_until-ran-requires-clause-end c =
     end_fits (image_from c.self.inside.image.now) c.self.inside.state c.args.h c.index_mut-hart.result.now (call c) c.args.slot (inside c)
 
-pub run_until-hart-requires-clause-few : goal.run_until-hart-requires-clause-few
-run_until-hart-requires-clause-few c =
+pub run_until-ran-requires-clause-few : goal.run_until-ran-requires-clause-few
+run_until-ran-requires-clause-few c =
     counted_here (image_from c.self.inside.image.now) c.self.inside.state c.args.h c.index_mut-hart.result.now
     (call c) c.args.slot (inside c)
     c.index_mut.result.now (got c)
@@ -118,11 +121,11 @@ got_after c =
 
 abbrev left : (c : goal.Joined-slot-hart) → StepEnd
 left c = record {
-  memory = c.run_until-hart.new.memory;
-  core = c.run_until-hart.new.core;
-  l2 = c.run_until-hart.new.l2;
-  domain = c.run_until-hart.new.domain;
-  clock = c.run_until-hart.result;
+  memory = c.run_until-ran.new.memory;
+  core = c.run_until-ran.new.core;
+  l2 = c.run_until-ran.new.l2;
+  domain = c.run_until-ran.new.domain;
+  clock = c.run_until-ran.result.clock;
 }
 
 -- both ends
@@ -134,7 +137,7 @@ either : (c : goal.Joined-slot-hart) (P : Image → State → Type 0)
 either c P so = elim c.if-slot-hart.branch [
   | then-slot-hart w ↦
       subst (λ q. P (image_from q.image.now) q.state) (sym w.self-inside-is)
-      (so _ (record { core = c.run_until-hart.new.core; clock = c.run_until-hart.result; slots = c.index_mut-hart.result.now.slots + 1; slot = None })
+      (so _ (record { core = c.run_until-ran.new.core; clock = c.run_until-ran.result.clock; slots = c.index_mut-hart.result.now.slots + 1; slot = None })
       (inr (record {
         past = w.if-slot-hart.true;
         kept = record {
@@ -145,15 +148,15 @@ either c P so = elim c.if-slot-hart.branch [
           slots = add-one c.index_mut-hart.result.now.slots;
           now_in = refl;
           harts = refl;
-          domains = ap (λ (d : ℕ). set c.self.inside.state.domains.items d c.run_until-hart.new.domain) c.from.ensures;
+          domains = ap (λ (d : ℕ). set c.self.inside.state.domains.items d c.run_until-ran.new.domain) c.from.ensures;
           used = refl;
         };
       })))
   | else-slot-hart w ↦
       subst (λ q. P (image_from q.image.now) q.state) (sym w.self-inside-is)
       (so _ (record {
-        core = c.run_until-hart.new.core;
-        clock = c.run_until-hart.result;
+        core = c.run_until-ran.new.core;
+        clock = c.run_until-ran.result.clock;
         slots = c.index_mut-hart.result.now.slots;
         slot = c.index_mut-hart.result.now.slot;
       })
@@ -167,11 +170,25 @@ either c P so = elim c.if-slot-hart.branch [
           slots = refl;
           now_in = in_slot c;
           harts = refl;
-          domains = ap (λ (d : ℕ). set c.self.inside.state.domains.items d c.run_until-hart.new.domain) c.from.ensures;
+          domains = ap (λ (d : ℕ). set c.self.inside.state.domains.items d c.run_until-ran.new.domain) c.from.ensures;
           used = refl;
         };
       })))
 ]
+
+-- its events are counted up to the slot's end, and come past it
+along_all : (c : goal.Joined-slot-hart) → c.args.stride ≡ stride.Slot
+    → MovesAlong any_rule any_stands_for c.args.slot.end c.args.slot.end c.run_until-ran.result.events c.self.inside.state.memory
+    c.index_mut.result.now (system c.index_mut-hart.result.now.core c.self.inside.state.l2) c.index_mut-hart.result.now.clock
+    (left c).memory (left c).domain (system (left c).core (left c).l2) (left c).clock
+along_all c all =
+    subst (λ (until : ℕ). MovesAlong any_rule any_stands_for c.args.slot.end until c.run_until-ran.result.events
+    c.self.inside.state.memory c.index_mut.result.now (system c.index_mut-hart.result.now.core c.self.inside.state.l2)
+    c.index_mut-hart.result.now.clock (left c).memory (left c).domain (system (left c).core (left c).l2) (left c).clock)
+    (c.until-until.ensures.slot all) c.run_until-ran.ensures.along
+
+past_all : (c : goal.Joined-slot-hart) → c.args.stride ≡ stride.Slot → c.args.slot.end ≤ (left c).clock
+past_all c all = let until = c.until-until.ensures.slot all in omega (arith, until, c.run_until-ran.ensures.over)
 
 -- by one event or to the slot's end
 strides : (s : Stride) → (s ≡ stride.Event) ⊎ (s ≡ stride.Slot)
@@ -187,17 +204,17 @@ invariant_of-self c =
     let slot = c.args.slot in
     let few =
     at_hart c.self.inside.image.now t c.args.self.now c.self.view_is c.args.h x (λ y. y.slots < 65536) (here c).got c.requires.slots in
-    let counted = c.run_until-hart.ensures.few in
-    let later : x.clock < (left c).clock = omega (arith, c.until-until.ensures.later, c.run_until-hart.ensures.over) in
+    let counted = c.run_until-ran.ensures.few in
+    let later : x.clock < (left c).clock = omega (arith, c.until-until.ensures.later, c.run_until-ran.ensures.over) in
     elim (strides c.args.stride) [
       | inl one ↦
           either c IsReached (λ t' x' which.
           reached_on i t c.args.h x (here c) slot (in_slot c) y (got_after c) (left c) t' x' which
-          (c.run_until-hart.ensures.once (c.until-until.ensures.event one)) few counted later)
+          (c.run_until-ran.ensures.once (c.until-until.ensures.event one)) few counted later)
       | inr all ↦
           either c IsReached (λ t' x' which.
-          reached_through i t c.args.h x (here c) slot (in_slot c) y (got_after c) (left c) t' x' which
-          (c.run_until-hart.ensures.whole (c.until-until.ensures.slot all)) few counted later)
+          reached_through i t c.args.h x (here c) slot (in_slot c) y (got_after c) (left c) t' x' which c.run_until-ran.result.events
+          (c.run_until-ran.ensures.whole (c.until-until.ensures.slot all)) (along_all c all) (past_all c all) few counted later)
     ]
 
 pub returns-clause-image : goal.returns-clause-image
@@ -215,13 +232,21 @@ returns-clause-next c one =
     to_value c.self.inside.image.now t c.args.self.now c.self.view_is (λ (i : Image) (u : State). NextStands i c.args.h u t')
     (gone_on (image_from c.self.inside.image.now) t c.args.h c.index_mut-hart.result.now (here c) c.args.slot
     (in_slot c) c.index_mut.result.now (got_after c) (left c) t' x' which
-    (c.run_until-hart.ensures.once (c.until-until.ensures.event one))))
+    (c.run_until-ran.ensures.once (c.until-until.ensures.event one))))
 
 pub returns-clause-ends : goal.returns-clause-ends
 returns-clause-ends c all =
     let t = c.self.inside.state in
-    either c (λ i t'. SlotEnds (image_of c.args.self.now) c.args.h c.args.self.now.1 t') (λ t' x' which.
-    to_value c.self.inside.image.now t c.args.self.now c.self.view_is (λ (i : Image) (u : State). SlotEnds i c.args.h u t')
+    either c (λ i t'. SlotEnds (image_of c.args.self.now) c.args.h c.run_until-ran.result.events c.args.self.now.1 t') (λ t' x' which.
+    to_value c.self.inside.image.now t c.args.self.now c.self.view_is
+    (λ (i : Image) (u : State). SlotEnds i c.args.h c.run_until-ran.result.events u t')
     (gone_through (image_from c.self.inside.image.now) t c.args.h c.index_mut-hart.result.now (here c) c.args.slot
-    (in_slot c) c.index_mut.result.now (got_after c) (left c) t' x' which
-    (c.run_until-hart.ensures.whole (c.until-until.ensures.slot all))))
+    (in_slot c) c.index_mut.result.now (got_after c) (left c) t' x' which c.run_until-ran.result.events
+    (c.run_until-ran.ensures.whole (c.until-until.ensures.slot all)) (along_all c all) (past_all c all)))
+
+pub returns-clause-few : goal.returns-clause-few
+returns-clause-few c =
+    let soon = c.run_until-ran.ensures.soon c.until-until.ensures.later in
+    let fits =
+    end_fits (image_from c.self.inside.image.now) c.self.inside.state c.args.h c.index_mut-hart.result.now (here c) c.args.slot (in_slot c) in
+    omega (arith, soon, fits, c.run_until-ran.ensures.apart)

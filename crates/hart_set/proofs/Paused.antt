@@ -1,0 +1,74 @@
+-- The code's harts while none is in a slot, and one slot later.
+use Rattle.std.proofs.Common.{◌≡◌, ◌≢◌, ◌∙◌, ℕ, ◌<◌, false, List, [], ◌++◌, replicate, inl, inr, sym, ap, subst}
+use Rattle.std.proofs.lemmas.Bool.{cases_eq}
+use Rattle.std.proofs.lemmas.List.Elements.{All-nil, All-append, All-replicate}
+use Rattle.image_record.specs.Record.{Raw}
+use Rattle.sched_table.specs.Schedule.{harts_in}
+use Rattle.image_check.specs.Image.{Image}
+use Rattle.image_check.specs.Laws.{Runnable}
+use Rattle.event_orders.specs.Machine.{Machine}
+use Rattle.event_orders.specs.Laws.{AreBetween}
+use Rattle.event_orders.proofs.Steps.{run_others}
+use Rattle.world_view.specs.Harts.{Harts, progress_of, harts}
+use Rattle.world_view.specs.HartLaws.{AreHartsOf}
+use Rattle.hart_machine.specs.HartMachine.{machine_of}
+use Rattle.hart_machine.specs.Laws.{IsItsSlot}
+use Rattle.hart_machine.proofs.IsMachine.{is_machine}
+use Rattle.hart_machine.proofs.OneSlot.{harts_run, is_out, one_slot, reached}
+use Rattle.hart_machine.proofs.Reports.{first_between}
+use Rattle.hart_set.specs.declared.set.State.{State}
+use Rattle.hart_set.specs.Slots.{EndsSlot}
+use Rattle.hart_set.specs.Models.{image_of, harts_after, StandsAfter}
+
+pub record Paused (v : Raw × State) : Type 0 where
+  pub accepted : Runnable (image_of v)
+  pub order : List ℕ
+  pub of_harts : AreHartsOf (image_of v) order
+  pub between : AreBetween (machine_of (image_of v)) (harts_after v order)
+  pub stands : StandsAfter v order
+
+abbrev pub at_first : (v : Raw × State) → Runnable (image_of v) → StandsAfter v [] → Paused v
+at_first v r stands = record {
+  accepted = r;
+  order = [];
+  of_harts = All-nil (λ (h : ℕ). h < harts_in (image_of v).all.schedule);
+  between = first_between (image_of v) r;
+  stands = stands;
+}
+
+module _ (v : Raw × State) (p : Paused v) (h : ℕ) (there : h < harts_in (image_of v).all.schedule) (events : ℕ) (t : State)
+    (ends : EndsSlot (image_of v) p.order h events t) where
+  abbrev i : Image
+  i = image_of v
+
+  abbrev m : Machine
+  m = machine_of i
+
+  abbrev pub order' : List ℕ
+  order' = p.order ++ replicate events h
+
+  pub more : AreHartsOf i order'
+  more =
+      All-append (λ (g : ℕ). g < harts_in i.all.schedule) p.order (replicate events h) p.of_harts
+      (All-replicate (λ (g : ℕ). g < harts_in i.all.schedule) events h there)
+
+  other_out : (g : ℕ) → g < harts_in i.all.schedule → g ≢ h → (progress_of g (harts i order')).inside ≡ false
+  other_out g there' ne =
+      let is = is_machine i p.accepted in
+      let same = run_others m is h there g events (harts i p.order) ne (reached i p.order p.of_harts) in
+      ap (λ (x : Harts). (progress_of g x).inside) (harts_run i h events p.order)
+      ∙ (is.as_far g _ (harts i p.order) same).inside ∙ p.between g there'
+
+  pub all_out : AreBetween m (harts i order')
+  all_out g there' = elim (cases_eq g h) [
+    | inl same ↦
+        subst (λ (x : ℕ). (progress_of x (harts i order')).inside ≡ false) (sym same)
+        (is_out i h order' p.accepted more there ends.between)
+    | inr other ↦ other_out g there' other
+  ]
+
+  pub its_slot : IsItsSlot i h events (harts i p.order) (harts i order')
+  its_slot = one_slot i h events p.order p.accepted p.of_harts there (p.between h there) ends.between ends.slots
+
+  abbrev pub one_later : Paused (v.0, t)
+  one_later = record { accepted = p.accepted; order = order'; of_harts = more; between = all_out; stands = ends.stands }
