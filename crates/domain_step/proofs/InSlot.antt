@@ -118,15 +118,3 @@ module _ (off : Option Guard) (i : Image) (d : ℕ) (w : World) (memory : Conten
             subst (λ (root : ℕ). KeepsLeaves s.storage.mem memory'.frames root system'.core.tlb)
             (over.facts.has.root ∙ root_is p o) over.leaves;
       }
-
-  -- a whole slot in which its own moments come
-  pub slot_stands : (end : ℕ) (x y : Domain) (memory' : Contents) (system' : SystemContents AnyPolicy)
-      (later : ℕ)
-      → slice_get domains d ≡ Some x
-      → moves.StandsIn any_rule any_stands_for (setting_by g i d) memory' y system' later
-      (stretch (setting_by g i d) end begun)
-      → StandsIn off i d (own_slot g i d end w) memory' system' (set domains d y) later
-  unfolding own_slot
-  slot_stands end x y memory' system' later got over =
-      after_own (stretch (setting_by g i d) end begun) x y memory' system' later got
-      (own_keeps i r g d end (end - clock_of 0 w) w is.domain all_both) over

@@ -12,7 +12,6 @@ pub mod Standing
 pub mod Elements
 pub mod InSlot
 pub mod SwitchCounts
-pub mod Whole
 mod Moments
 mod Among
 mod Opens

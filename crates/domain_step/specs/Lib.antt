@@ -4,6 +4,5 @@ pub mod Standing
 pub mod Moves
 pub mod Propositions
 pub mod Usage
-pub mod Worlds
 pub mod InSlot
 pub mod OpenSlot

@@ -1,5 +1,5 @@
 -- Events of a hart alone that end its next slot.
-use Rattle.std.proofs.Common.{◌≡◌, ◌∙◌, ℕ, zero, suc, ◌<◌, Bool, true, false, List, ◌++◌, replicate, ap, subst, refl, arith}
+use Rattle.std.proofs.Common.{◌≡◌, ◌∙◌, ℕ, zero, suc, ◌<◌, Bool, true, false, None, List, ◌++◌, replicate, ap, subst, refl, arith}
 use Rattle.std.proofs.lemmas.List.Elements.{All-append, All-replicate}
 use Rattle.event_orders.specs.Orders.{run, slot_events, run_slot}
 use Rattle.event_orders.proofs.OneSlot.{one_slot_law}
@@ -21,7 +21,7 @@ module _ (i : Image) (h : ℕ) where
   run_is (suc k) s = run_is k (next i h s)
 
   pub harts_run : (k : ℕ) (order : List ℕ) → harts i (order ++ replicate k h) ≡ run (machine_of i) h k (harts i order)
-  harts_run k order = harts_appended i order (replicate k h) ∙ run_is k (harts i order)
+  harts_run k order = harts_appended None i order (replicate k h) ∙ run_is k (harts i order)
 
   -- a hart before its next slot is in none
   out_if : (order : List ℕ) → Runnable i → AreHartsOf i order → h < harts_in i.all.schedule → IsBetween i h (harts i order)

@@ -72,7 +72,7 @@ module _ (g : Geometry AnyPolicy) (costs : Costs) (products : Option ProductCost
         ∙ ap₂ (λ (d t : Shape). made h.costs h.products h.predictor h.l1i d t)
         (new.l1d ∙ ap (λ (q : Hierarchy). q.l1d) is) (new.tlb ∙ ap (λ (q : Hierarchy). q.tlb) is)
 
-    pub cold_hart : IsColdHart h l2 (record { core = core; clock = 0; slots = 0; slot = None })
+    pub cold_hart : IsColdHart h l2 (record { core = core; clock = 0; slots = 0; slot = None; ended = 0 })
     unfolding cold fresh_core
     cold_hart = record {
       levels = levels;
@@ -87,4 +87,5 @@ module _ (g : Geometry AnyPolicy) (costs : Costs) (products : Option ProductCost
       clock = refl;
       slots = refl;
       slot = refl;
+      ended = refl;
     }

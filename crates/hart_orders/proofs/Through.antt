@@ -1,48 +1,42 @@
--- Events of one hart, up to the end of the slot that it is in: what the definition has then, at each place.
-use Rattle.std.proofs.Common.{None, ◌≡◌, ◌≢◌, ◌∙◌, ℕ, zero, suc, ◌+◌, ◌<◌, ◌≤◌, Bool, true, false, List, [], ◌∷◌, ◌++◌, replicate, ltb, ltb-true, inl, inr, refl, sym, ap, ap₂, subst, arith}
+-- Events of one hart, up to the end of the slot that it is in: what the definition has then, at each place, with all guards on or
+-- with one off.
+use Rattle.std.proofs.Common.{◌≡◌, ◌≢◌, ◌∙◌, ℕ, zero, suc, ◌+◌, ◌<◌, ◌≤◌, Bool, true, false, List, [], ◌∷◌, ◌++◌, replicate, ltb, ltb-true, Option, inl, inr, refl, sym, ap, subst, subst₂, arith}
 use Rattle.std.specs.Prelude.{if◌then◌else◌}
 use Rattle.std.proofs.lemmas.Bool.{cases_lt, ltb-false}
 use Rattle.tp_base.specs.Table.{at-put_other}
-use Rattle.call_table.specs.Domain.{Dom}
-use Rattle.mem_system.specs.Cost.{Caches}
+use Rattle.guards.specs.declared.Guard.{Guard}
 use Rattle.sched_table.specs.Schedule.{harts_in}
-use Rattle.image_check.specs.Image.{Image, own_of}
+use Rattle.image_check.specs.Image.{Image}
 use Rattle.image_check.specs.Laws.{Runnable}
 use Rattle.world_view.specs.Kernel.{no_dom}
-use Rattle.world_view.specs.Event.{Storage}
-use Rattle.world_view.specs.Machine.{guarded, World, Local, Setting, setting, step, stretch, dom_of, clock_of, part_of, with_part, with_hart}
-use Rattle.world_view.specs.Relations.{HasFacts}
-use Rattle.world_view.specs.Harts.{Harts, Progress, progress_of, slots_of, domain_in, end_on, proceeds, begins, runs, goes_on, next, after, harts, next_by, after_by, harts_by, settles}
-use Rattle.world_view.specs.HartLaws.{AreHartsOf, LeftAlone}
-use Rattle.world_view.proofs.steps.Fuel.{IsTimed, step_later, stretch_step, stretch_done}
-use Rattle.world_view.proofs.harts.OnHart.{separated_on}
-use Rattle.world_view.proofs.harts.Events.{IsHart, IsInside, begun_world, begins_is, ran-caches, ran-clock, step_own}
-use Rattle.world_view.proofs.harts.Isolation.{running}
-use Rattle.world_view.proofs.harts.Runs.{Running, Next, next_so, progress-same}
+use Rattle.world_view.specs.Machine.{World, Local, Setting, Guards, guards_of, setting_by, step, stretch, dom_of, clock_of, ended_of, part_of, with_part, with_hart, own_step, event_if, step_among, open_slot}
+use Rattle.world_view.specs.Harts.{Harts, Progress, IsInSlot, progress_of, domain_in, end_by, proceeds, runs, next_by, after_by, harts_by, settles}
+use Rattle.world_view.specs.HartLaws.{LeftAlone}
+use Rattle.world_view.proofs.opening.Separate.{separated}
+use Rattle.world_view.proofs.steps.Fuel.{step_later, stretch_step, stretch_done}
+use Rattle.world_view.proofs.runs.GuardLaws.{among_later, open_step, open_done}
+use Rattle.world_view.proofs.harts.Always.{part-with}
+use Rattle.world_view.proofs.harts.Runs.{progress-same}
+use Rattle.hart_orders.specs.Off.{IsServed}
+use Rattle.hart_orders.proofs.Held.{Held, LeavesOthers, next_inside, next_held, next_leaves, event_used, event_ended, end_stays}
 
 -- ---- after more events
 
-appended : (i : Image) (order more : List ℕ) (s : Harts)
-    → after i (order ++ more) s ≡ after i more (after i order s)
+appended : (off : Option Guard) (i : Image) (order more : List ℕ) (s : Harts)
+    → after_by off i (order ++ more) s ≡ after_by off i more (after_by off i order s)
 unfolding after_by
-appended i [] more s = refl
-appended i (g ∷ order) more s = appended i order more (next i g s)
+appended off i [] more s = refl
+appended off i (g ∷ order) more s = appended off i order more (next_by off i g s)
 
-pub harts_appended : (i : Image) (order more : List ℕ)
-    → harts i (order ++ more) ≡ after i more (harts i order)
+pub harts_appended : (off : Option Guard) (i : Image) (order more : List ℕ)
+    → harts_by off i (order ++ more) ≡ after_by off i more (harts_by off i order)
 unfolding harts_by
-harts_appended i order more = appended i order more _
+harts_appended off i order more = appended off i order more _
 
--- a switch ends no slot
-pub slots_begun : (i : Image) (r : Runnable i) (h : ℕ) → h < harts_in i.all.schedule → (order : List ℕ) → AreHartsOf i order
-    → (progress_of h (harts i order)).inside ≡ false → slots_of h (next i h (harts i order)) ≡ slots_of h (harts i order)
-unfolding next_by
-slots_begun i r h is order below outside =
-    let s = harts i order in
-    let time = subst (λ (b : Bool). IsHart i b h (slots_of h s) s.world) outside ((running i r order below).hart h is) in
-    ap (λ (b : Bool). slots_of h (if b then goes_on None i h s else begins None i h s)) outside
-    ∙ ap (slots_of h) (begins_is i r h is s time)
-    ∙ ap (λ (x : Progress). x.slots) (progress-same h s (begun_world i h s) (slots_of h s) true)
+pub next_by_law : (off : Option Guard) (i : Image) (order : List ℕ) (h : ℕ)
+    → harts_by off i (order ++ h ∷ []) ≡ next_by off i h (harts_by off i order)
+unfolding after_by
+next_by_law off i order h = harts_appended off i order (h ∷ [])
 
 -- so many steps lead past the end of a slot, each of which begins before it
 abbrev pub EndsIn : Setting → ℕ → ℕ → Local → Type 0
@@ -56,23 +50,27 @@ ends_once w end zero (suc k) x past (early, rest) = absurd (omega (arith, past, 
 ends_once w end (suc n) zero x (early, rest) past = absurd (omega (arith, past, early))
 ends_once w end (suc n) (suc k) x (early, rest) (also, more) = ap (λ (m : ℕ). suc m) (ends_once w end n k (step w end x) rest more)
 
-abbrev made : Storage → Dom → Caches → ℕ → Local
-made storage d c n = record { dom = d; storage = storage; caches = c; clock = n }
+module _ (off : Option Guard) (i : Image) (r : Runnable i) (served : IsServed off i) (h : ℕ) (below : h < harts_in i.all.schedule) where
+  abbrev g : Guards
+  g = guards_of off i
 
-module _ (i : Image) (r : Runnable i) (h : ℕ) where
   -- ---- what events of the hart in its slot k leave
 
-  -- its domain is as f leaves it, and each other as it was; the slot is over where the clock is past its end
+  -- the slot is over where the clock is past its end
+  pub record GoesThrough (k end : ℕ) (s later : Harts) : Type 0 where
+    pub used : later.world.used ≡ s.world.used
+    pub ended : ended_of h later.world ≡ ended_of h s.world
+    pub soon : clock_of h later.world < end → progress_of h later ≡ record { slots = k; inside = true }
+    pub over : end ≤ clock_of h later.world → progress_of h later ≡ record { slots = suc k; inside = false }
+    pub held : Held off i r later
+    pub left : LeavesOthers off i r h s later
+
+  -- its domain is as f leaves it, and each other as it was
   pub record Ran (k : ℕ) (f : Setting → ℕ → Local → Local) (s later : Harts) : Type 0 where
     pub part : let d = domain_in i h k in
-        part_of h d later.world ≡ f (setting i.all.hardware (own_of i d) false) (end_on i h k) (part_of h d s.world)
+        part_of h d later.world ≡ f (setting_by g i d) (end_by g i h k s.world) (part_of h d s.world)
     pub doms : (e : ℕ) → e ≢ domain_in i h k → dom_of later.world e ≡ dom_of s.world e
-    pub used : later.world.used ≡ s.world.used
-    pub soon : clock_of h later.world < end_on i h k
-        → progress_of h later ≡ record { slots = k; inside = true }
-    pub over : end_on i h k ≤ clock_of h later.world
-        → progress_of h later ≡ record { slots = suc k; inside = false }
-    pub others : Next i r h s later
+    pub goes : GoesThrough k (end_by g i h k s.world) s later
 
   -- what one event after the other leaves of another hart's domain
   left_twice : (d : ℕ) (s t u : Harts) → LeftAlone i d t s → LeftAlone i d u t → LeftAlone i d u s
@@ -94,145 +92,258 @@ module _ (i : Image) (r : Runnable i) (h : ℕ) where
     progress = refl;
   }
 
-  module _ (below : h < harts_in i.all.schedule) (k : ℕ) where
+  pub goes_twice : (k end : ℕ) (s t u : Harts) → GoesThrough k end s t → GoesThrough k end t u → GoesThrough k end s u
+  goes_twice k end s t u one more = record {
+    used = more.used ∙ one.used;
+    ended = more.ended ∙ one.ended;
+    soon = more.soon;
+    over = more.over;
+    held = more.held;
+    left = λ e named other. left_twice e s t u (one.left e named other) (more.left e named other);
+  }
+
+  pub goes_nowhere : (k end : ℕ) (s : Harts) → Held off i r s → progress_of h s ≡ record { slots = suc k; inside = false }
+      → end ≤ clock_of h s.world → GoesThrough k end s s
+  goes_nowhere k end s was ended past = record {
+    used = refl;
+    ended = refl;
+    soon = λ early. absurd (omega (arith, early, past));
+    over = λ over. ended;
+    held = was;
+    left = λ e named other. left_here e s;
+  }
+
+  module _ (k : ℕ) where
     abbrev d : ℕ
     d = domain_in i h k
 
-    abbrev end : ℕ
-    end = end_on i h k
-
-    abbrev own : Setting
-    own = setting i.all.hardware (own_of i d) false
-
-    timed : IsTimed i.all.hardware
-    timed = (separated_on i r h below).timed
-
     -- ---- one event
 
-    module _ (s : Harts) (run : Running i r s) (far : progress_of h s ≡ record { slots = k; inside = true }) where
-      pub in_it : IsInside i h k s.world
-      in_it = subst (λ (x : Progress). IsHart i x.inside h x.slots s.world) far (run.hart h below)
+    module _ (s : Harts) (was : Held off i r s) (far : progress_of h s ≡ record { slots = k; inside = true }) where
+      abbrev end : ℕ
+      end = end_by g i h k s.world
 
-      facts : HasFacts i.all.hardware (own_of i d) (dom_of s.world d) s.world.storage
-      facts = (run.facts d ((separated_on i r h below).named k)).facts
+      pub inside : IsInSlot h s
+      inside = ap (λ (x : Progress). x.inside) far
 
-      abbrev ran : World
-      ran = runs None i h k s.world
+      pub early : clock_of h s.world < end
+      early = subst (λ (x : Progress). clock_of h s.world < end_by g i h x.slots s.world) far (was.soon h below inside)
 
-      part_ran : part_of h d ran ≡ step own end (part_of h d s.world)
-      unfolding runs with_part with_hart guarded
-      part_ran =
-          let x = step own end (part_of h d s.world) in
-          ap₂ (made x.storage (dom_of ran d)) (ran-caches i r h below k s.world in_it facts) (ran-clock i r h below k s.world in_it facts)
-          ∙ ap (λ (y : Dom). made x.storage y x.caches x.clock) (step_own i r h below k s.world in_it facts)
+      abbrev went : World → Bool → Harts
+      went w b = if b then proceeds h s w k true else proceeds h s w (suc k) false
 
-      doms_ran : (e : ℕ) → e ≢ d → dom_of ran e ≡ dom_of s.world e
-      unfolding runs with_part with_hart guarded
-      doms_ran e other = at-put_other no_dom s.world.doms d e _ other
+      next_is : next_by off i h s ≡ settles h s (event_if g.irq g i h d end s.world) k end
+      unfolding runs
+      next_is =
+          next_inside off i r h s inside
+          ∙ ap (λ (x : Progress). settles h s (runs off i h x.slots s.world) x.slots (end_by g i h x.slots s.world)) far
 
-      used_ran : ran.used ≡ s.world.used
-      unfolding runs with_part with_hart guarded
-      used_ran = refl
+      -- with or without moments of all domains
+      module _ (moments : Bool) (irq : g.irq ≡ moments) where
+        abbrev ran : World
+        ran = event_if moments g i h d end s.world
 
-      abbrev went : Bool → Harts
-      went b = if b then proceeds h s ran k true else proceeds h s ran (suc k) false
+        settled : next_by off i h s ≡ went ran (ltb (clock_of h ran) end)
+        unfolding settles
+        settled = next_is ∙ ap (λ (b : Bool). settles h s (event_if b g i h d end s.world) k end) irq
 
-      next_is : (b : Bool) → ltb (clock_of h ran) end ≡ b → next i h s ≡ went b
-      unfolding next_by goes_on settles guarded
-      next_is b test =
-          ap (λ (x : Progress). if x.inside then goes_on None i h s else begins None i h s) far
-          ∙ ap
-          (λ (x : Progress). let w = runs None i h x.slots s.world in
-          if ltb (clock_of h w) (end_on i h x.slots) then proceeds h s w x.slots true else proceeds h s w (suc x.slots) false) far
-          ∙ ap went test
+        goes_if : (b : Bool) → ltb (clock_of h ran) end ≡ b → Held off i r (went ran b) → LeavesOthers off i r h s (went ran b)
+            → GoesThrough k end s (went ran b)
+        unfolding proceeds
+        goes_if true test now left = record {
+          used = event_used g i h d end moments s.world;
+          ended = event_ended g i h d end moments s.world;
+          soon = λ soon. progress-same h s ran k true;
+          over = λ past. let soon = ltb-true (clock_of h ran) end test in absurd (omega (arith, soon, past));
+          held = now;
+          left = left;
+        }
+        goes_if false test now left = record {
+          used = event_used g i h d end moments s.world;
+          ended = event_ended g i h d end moments s.world;
+          soon = λ soon. let past = ltb-false (clock_of h ran) end test in absurd (omega (arith, soon, past));
+          over = λ past. progress-same h s ran (suc k) false;
+          held = now;
+          left = left;
+        }
 
-      ran_if : (b : Bool) → ltb (clock_of h ran) end ≡ b → Next i r h s (went b) → Ran k step s (went b)
-      unfolding proceeds
-      ran_if true test did = record {
-        part = part_ran;
-        doms = doms_ran;
-        used = used_ran;
-        soon = λ early. progress-same h s ran k true;
-        over = λ past. let early = ltb-true (clock_of h ran) end test in absurd (omega (arith, early, past));
-        others = did;
-      }
-      ran_if false test did = record {
-        part = part_ran;
-        doms = doms_ran;
-        used = used_ran;
-        soon = λ early. let past = ltb-false (clock_of h ran) end test in absurd (omega (arith, early, past));
-        over = λ past. progress-same h s ran (suc k) false;
-        others = did;
-      }
+        pub goes_next : GoesThrough k end s (next_by off i h s)
+        goes_next =
+            subst (GoesThrough k end s) (sym settled)
+            (goes_if (ltb (clock_of h ran) end) refl
+            (subst (Held off i r) settled (next_held off i r served h below s was))
+            (subst (LeavesOthers off i r h s) settled (next_leaves off i r served h below s was)))
 
-      pub one_event : Ran k step s (next i h s)
-      one_event =
-          let q = next_is (ltb (clock_of h ran) end) refl in
-          subst (Ran k step s) (sym q) (ran_if (ltb (clock_of h ran) end) refl (subst (Next i r h s) q (next_so i r h below s run)))
+        world_if : (b : Bool) → (went ran b).world ≡ ran
+        unfolding proceeds
+        world_if true = refl
+        world_if false = refl
+
+        pub world_is : (next_by off i h s).world ≡ ran
+        world_is = ap (λ (t : Harts). t.world) settled ∙ world_if (ltb (clock_of h ran) end)
+
+      pub one_event : g.irq ≡ true → Ran k step s (next_by off i h s)
+      unfolding with_part with_hart
+      one_event own =
+          let w = world_is true own in
+          record {
+            part = ap (part_of h d) w ∙ part-with h d s.world (step (setting_by g i d) end (part_of h d s.world));
+            doms = λ e other. ap (λ (v : World). dom_of v e) w ∙ at-put_other no_dom s.world.doms d e _ other;
+            goes = goes_next true own;
+          }
+
+    -- the slot's end stays
+    end_is : (s later : Harts) → ended_of h later.world ≡ ended_of h s.world → end_by g i h k later.world ≡ end_by g i h k s.world
+    end_is s later same = end_stays g i h k later.world s.world same
 
     -- ---- all events of the slot
 
     -- so many of them
     pub record Whole (s : Harts) : Type 0 where
       pub events : ℕ
-      pub ends : EndsIn own end events (part_of h d s.world)
-      pub ran : Ran k stretch s (after i (replicate events h) s)
-      pub past : end ≤ clock_of h (after i (replicate events h) s).world
+      pub ends : EndsIn (setting_by g i d) (end_by g i h k s.world) events (part_of h d s.world)
+      pub ran : Ran k stretch s (after_by off i (replicate events h) s)
+      pub past : end_by g i h k s.world ≤ clock_of h (after_by off i (replicate events h) s).world
 
-    none_left : (s : Harts) → Running i r s → progress_of h s ≡ record { slots = suc k; inside = false }
-        → end ≤ clock_of h s.world
-        → Whole s
-    unfolding after_by
-    none_left s run ended past = record {
-      events = 0;
-      ends = past;
-      ran = record {
-        part = sym (stretch_done own timed end (part_of h d s.world) past);
-        doms = λ e other. refl;
-        used = refl;
-        soon = λ early. absurd (omega (arith, early, past));
-        over = λ over. ended;
-        others = record { running = run; left = λ e named other. left_here e s };
-      };
-      past = past;
-    }
+    module _ (own : g.irq ≡ true) where
+      none_left : (s : Harts) → Held off i r s → progress_of h s ≡ record { slots = suc k; inside = false }
+          → end_by g i h k s.world ≤ clock_of h s.world → Whole s
+      unfolding after_by
+      none_left s was ended past = record {
+        events = 0;
+        ends = past;
+        ran = record {
+          part = sym (stretch_done (setting_by g i d) (separated i r).timed (end_by g i h k s.world) (part_of h d s.world) past);
+          doms = λ e other. refl;
+          goes = goes_nowhere k (end_by g i h k s.world) s was ended past;
+        };
+        past = past;
+      }
 
-    one_more : (s : Harts) (run : Running i r s) → progress_of h s ≡ record { slots = k; inside = true }
-        → Whole (next i h s) → Whole s
+      one_more : (s : Harts) (was : Held off i r s) → progress_of h s ≡ record { slots = k; inside = true }
+          → Whole (next_by off i h s) → Whole s
+      unfolding after_by
+      one_more s was far rest =
+          let one = one_event s was far own in
+          let later = after_by off i (replicate rest.events h) (next_by off i h s) in
+          let same : end_by g i h k (next_by off i h s).world ≡ end_by g i h k s.world = end_is s (next_by off i h s) one.goes.ended in
+          record {
+            events = suc rest.events;
+            ends = (
+              early s was far,
+              subst₂ (λ (n : ℕ) (x : Local). EndsIn (setting_by g i d) n rest.events x) same one.part rest.ends,
+            );
+            ran = record {
+              part =
+                  rest.ran.part
+                  ∙ ap (λ (n : ℕ). stretch (setting_by g i d) n (part_of h d (next_by off i h s).world)) same
+                  ∙ ap (λ (x : Local). stretch (setting_by g i d) (end_by g i h k s.world) x) one.part
+                  ∙ sym (stretch_step (setting_by g i d) (separated i r).timed (end_by g i h k s.world) (part_of h d s.world) (early s was far));
+              doms = λ e other. rest.ran.doms e other ∙ one.doms e other;
+              goes =
+                  goes_twice k (end_by g i h k s.world) s (next_by off i h s) later one.goes
+                  (subst (λ (n : ℕ). GoesThrough k n (next_by off i h s) later) same rest.ran.goes);
+            };
+            past = subst (λ (n : ℕ). n ≤ clock_of h later.world) same rest.past;
+          }
+
+      -- each event takes a cycle or more
+      within : (n : ℕ) (s : Harts) → Held off i r s → progress_of h s ≡ record { slots = k; inside = true }
+          → end_by g i h k s.world ≤ clock_of h s.world + n → Whole s
+      within zero s was far left = let soon = early s was far in absurd (omega (arith, soon, left))
+      within (suc n) s was far left =
+          let one = one_event s was far own in
+          let later = step_later (setting_by g i d) (separated i r).timed (end_by g i h k s.world) (part_of h d s.world) (early s was far) in
+          let now = ap (λ (x : Local). x.clock) one.part in
+          let same = end_is s (next_by off i h s) one.goes.ended in
+          one_more s was far
+          (elim (cases_lt (clock_of h (next_by off i h s).world) (end_by g i h k s.world)) [
+            | inl soon ↦ within n (next_by off i h s) one.goes.held (one.goes.soon soon) (omega (arith, left, later, now, same))
+            | inr past ↦ none_left (next_by off i h s) one.goes.held (one.goes.over past) (omega (arith, past, same))
+          ])
+
+      pub whole : (s : Harts) → Held off i r s → progress_of h s ≡ record { slots = k; inside = true } → Whole s
+      whole s was far = within (end_by g i h k s.world) s was far (omega arith)
+
+-- ---- all events of a slot in which moments of all domains come
+
+module _ (off : Option Guard) (i : Image) (r : Runnable i) (served : IsServed off i) (below : 0 < harts_in i.all.schedule)
+    (all : (guards_of off i).irq ≡ false) (k : ℕ) where
+  abbrev go : Guards
+  go = guards_of off i
+
+  abbrev whose : ℕ
+  whose = domain_in i 0 k
+
+  pub record WholeOpen (s : Harts) : Type 0 where
+    pub events : ℕ
+    pub world : (after_by off i (replicate events 0) s).world ≡ open_slot go i whose (end_by go i 0 k s.world) s.world
+    pub goes : GoesThrough off i r served 0 below k (end_by go i 0 k s.world) s (after_by off i (replicate events 0) s)
+    pub past : end_by go i 0 k s.world ≤ clock_of 0 (after_by off i (replicate events 0) s).world
+
+  none_open : (s : Harts) → Held off i r s → progress_of 0 s ≡ record { slots = suc k; inside = false }
+      → end_by go i 0 k s.world ≤ clock_of 0 s.world → WholeOpen s
+  unfolding after_by
+  none_open s was ended past = record {
+    events = 0;
+    world = sym (open_done i (separated i r) go whose (end_by go i 0 k s.world) s.world past);
+    goes = goes_nowhere off i r served 0 below k (end_by go i 0 k s.world) s was ended past;
+    past = past;
+  }
+
+  module _ (s : Harts) (was : Held off i r s) (far : progress_of 0 s ≡ record { slots = k; inside = true }) where
+    abbrev ends : ℕ
+    ends = end_by go i 0 k s.world
+
+    abbrev once : Harts
+    once = next_by off i 0 s
+
+    now_is : once.world ≡ step_among go i 0 whose ends s.world
+    now_is = world_is off i r served 0 below k s was far false all
+
+    goes_one : GoesThrough off i r served 0 below k ends s once
+    goes_one = goes_next off i r served 0 below k s was far false all
+
+    soon_in : clock_of 0 s.world < ends
+    soon_in = early off i r served 0 below k s was far
+
+    same_end : end_by go i 0 k once.world ≡ ends
+    same_end = end_stays go i 0 k once.world s.world goes_one.ended
+
+    later_on : clock_of 0 s.world < clock_of 0 once.world
+    later_on =
+        subst (λ (w : World). clock_of 0 s.world < clock_of 0 w) (sym now_is)
+        (among_later i (separated i r) go whose ends s.world soon_in)
+
+    one_more_open : WholeOpen once → WholeOpen s
     unfolding after_by
-    one_more s run far rest =
-        let one = one_event s run far in
+    one_more_open rest =
+        let later = after_by off i (replicate rest.events 0) once in
         record {
           events = suc rest.events;
-          ends = ((in_it s run far).soon, subst (EndsIn own end rest.events) one.part rest.ends);
-          ran = record {
-            part = rest.ran.part ∙ ap (λ (x : Local). stretch own end x) one.part
-                ∙ sym (stretch_step own timed end (part_of h d s.world) (in_it s run far).soon);
-            doms = λ e other. rest.ran.doms e other ∙ one.doms e other;
-            used = rest.ran.used ∙ one.used;
-            soon = rest.ran.soon;
-            over = rest.ran.over;
-            others = record {
-              running = rest.ran.others.running;
-              left = λ e named other. left_twice e s (next i h s) _ (one.others.left e named other) (rest.ran.others.left e named other);
-            };
-          };
-          past = rest.past;
+          world =
+              rest.world
+              ∙ ap (λ (n : ℕ). open_slot go i whose n once.world) same_end
+              ∙ ap (open_slot go i whose ends) now_is
+              ∙ sym (open_step i (separated i r) go whose ends s.world soon_in);
+          goes =
+              goes_twice off i r served 0 below k ends s once later goes_one
+              (subst (λ (n : ℕ). GoesThrough off i r served 0 below k n once later) same_end rest.goes);
+          past = subst (λ (n : ℕ). n ≤ clock_of 0 later.world) same_end rest.past;
         }
 
-    -- each event takes a cycle or more
-    within : (n : ℕ) (s : Harts) → Running i r s → progress_of h s ≡ record { slots = k; inside = true }
-        → end ≤ clock_of h s.world + n → Whole s
-    within zero s run far left = let early = (in_it s run far).soon in absurd (omega (arith, early, left))
-    within (suc n) s run far left =
-        let one = one_event s run far in
-        let later = step_later own timed end (part_of h d s.world) (in_it s run far).soon in
-        let now = ap (λ (x : Local). x.clock) one.part in
-        one_more s run far
-        (elim (cases_lt (clock_of h (next i h s).world) end) [
-          | inl early ↦ within n (next i h s) one.others.running (one.soon early) (omega (arith, left, later, now))
-          | inr past ↦ none_left (next i h s) one.others.running (one.over past) past
-        ])
+  within_open : (n : ℕ) (s : Harts) → Held off i r s → progress_of 0 s ≡ record { slots = k; inside = true }
+      → end_by go i 0 k s.world ≤ clock_of 0 s.world + n → WholeOpen s
+  within_open zero s was far left = let soon = soon_in s was far in absurd (omega (arith, soon, left))
+  within_open (suc n) s was far left =
+      let one = goes_one s was far in
+      let later = later_on s was far in
+      let same = same_end s was far in
+      one_more_open s was far
+      (elim (cases_lt (clock_of 0 (next_by off i 0 s).world) (end_by go i 0 k s.world)) [
+        | inl soon ↦ within_open n (next_by off i 0 s) one.held (one.soon soon) (omega (arith, left, later, same))
+        | inr past ↦ none_open (next_by off i 0 s) one.held (one.over past) (omega (arith, past, same))
+      ])
 
-    pub whole : (s : Harts) → Running i r s → progress_of h s ≡ record { slots = k; inside = true } → Whole s
-    whole s run far = within end s run far (omega arith)
+  pub whole_open : (s : Harts) → Held off i r s → progress_of 0 s ≡ record { slots = k; inside = true } → WholeOpen s
+  whole_open s was far = within_open (end_by go i 0 k s.world) s was far (omega arith)

@@ -24,3 +24,4 @@ pub record IsColdHart (h : Hierarchy) (l2 : L2Contents AnyPolicy) (x : Hart) : T
   pub clock : x.clock ≡ 0
   pub slots : x.slots ≡ 0
   pub slot : x.slot ≡ None
+  pub ended : x.ended ≡ 0

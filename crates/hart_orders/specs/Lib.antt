@@ -1,3 +1,4 @@
+pub mod Off
 pub mod Cold
 pub mod Order
 pub mod Laws

@@ -20,4 +20,6 @@ pub struct Hart {
     pub slots: u32,
     /// None before its boot, and between two slots.
     pub slot: Option<Slot>,
+    /// When the slot that it is in ends, or the last one ended, in cycles.
+    pub ended: u64,
 }

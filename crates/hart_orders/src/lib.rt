@@ -7,7 +7,9 @@ mod choice;
 mod cold;
 mod hart;
 pub mod laws;
+mod off;
 
 pub use choice::Choice;
 pub use cold::{cold_caches, discard};
 pub use hart::{Hart, Slot};
+pub use off::is_on;

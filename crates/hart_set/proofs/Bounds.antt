@@ -10,13 +10,13 @@ use Rattle.image_check.specs.Laws.{Runnable}
 use Rattle.kernel_call.specs.declared.domain.Domain.{Domain}
 use Rattle.kernel_call.specs.Models.{CountsUpTo}
 use Rattle.world_view.specs.Harts.{Harts, hart_of_domain, progress_of, slots_of}
-use Rattle.world_view.proofs.harts.Runs.{Running}
+use Rattle.hart_orders.proofs.Held.{Held}
 use Rattle.domain_step.proofs.Counts.{counts_later}
 use Rattle.domain_step.specs.Usage.{CountedUpTo}
 use Rattle.domain_step.proofs.Elements.{each_set_kept}
 use Rattle.hart_orders.specs.declared.hart.Hart.{Hart as CodeHart}
 use Rattle.hart_set.specs.declared.set.State.{State}
-use Rattle.hart_set.specs.Standing.{StandsFor, AtHart, IsInBounds}
+use Rattle.hart_set.specs.Standing.{StandsFor, AtHart, IsEarly, IsInBounds}
 
 -- ---- switches
 
@@ -24,7 +24,7 @@ switches_few : (b : Bool) (k : ℕ) → k ≤ 65536 → (if b then k + 1 else k)
 switches_few true k few = omega (arith, few)
 switches_few false k few = omega (arith, few)
 
-module _ (i : Image) (r : Runnable i) (s : Harts) (t : State) (run : Running i r s) (is : StandsFor i s t)
+module _ (i : Image) (r : Runnable i) (s : Harts) (t : State) (run : Held t.off i r s) (is : StandsFor i s t)
     (bounds : IsInBounds i t) (x : CodeHart) where
   slots_few : (h : ℕ) → h < harts_in i.all.schedule → slots_of h s ≤ 65536
   slots_few h below =
@@ -60,7 +60,7 @@ pub record IsCounted (i : Image) (h : ℕ) (now d : ℕ) (y : Domain) : Type 0 w
   pub few : CountsUpTo now y
 
 module _ (i : Image) (t t' : State) (h : ℕ) (x x' : CodeHart) (got : slice_get t.harts.items h ≡ Some x) (bounds : IsInBounds i t)
-    (few : x'.slots ≤ 65536) (later : x.clock ≤ x'.clock) (harts : t'.harts.items ≡ set t.harts.items h x')
+    (few : x'.slots ≤ 65536) (early : IsEarly x') (later : x.clock ≤ x'.clock) (harts : t'.harts.items ≡ set t.harts.items h x')
     (domains : (d : ℕ) (y : Domain) → slice_get t'.domains.items d ≡ Some y
     → IsCounted i h x'.clock d y ⊎ (slice_get t.domains.items d ≡ Some y)) where
   within : h < length t.harts.items
@@ -87,5 +87,6 @@ module _ (i : Image) (t t' : State) (h : ℕ) (x x' : CodeHart) (got : slice_get
   pub in_bounds_next : IsInBounds i t'
   in_bounds_next = record {
     few_slots = each_now (λ g z. z.slots ≤ 65536) few (λ g z other at. bounds.few_slots g z at);
+    early = each_now (λ g z. IsEarly z) early (λ g z other at. bounds.early g z at);
     few_calls = λ d y at. calls_if d y (domains d y at);
   }

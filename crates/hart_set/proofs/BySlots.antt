@@ -73,11 +73,11 @@ module _ (v : Raw × State) (n f : ℕ) (way : OnTheWay v n (suc f)) where
   }
 
   -- somebody is: it has its slot
-  pub one_more : (h : ℕ) → h < harts_in i.all.schedule → (events : ℕ) (t : State) → EndsSlot i way.at.order h events t
+  pub one_more : (h : ℕ) → h < harts_in i.all.schedule → (t : State) → t.off ≡ None → EndsSlot i way.at.order h t
       → first m n s (harts_in i.all.schedule) ≡ Some h → OnTheWay (v.0, t) n f
-  one_more h there events t ends is = record {
-    at = one_later v way.at h there events t ends;
+  one_more h there t all ends is = record {
+    at = one_later v way.at h there t all ends;
     leads =
-        ap (λ (x : Harts). (by_slots m n f x).world) (its_slot v way.at h there events t ends).comes_to
+        ap (λ (x : Harts). (by_slots m n f x).world) (its_slot v way.at h there t all ends).comes_to
         ∙ ap (λ r. r.world) (sym (next_is (Some h) is)) ∙ way.leads;
   }

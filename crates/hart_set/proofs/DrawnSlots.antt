@@ -195,17 +195,17 @@ module _ (v : Raw × State) (seed n before f : ℕ) (owed names : List ℕ)
       last_off names' are = counted_off names' (are way.at.order table' way.at.stands (owes_set k within))
 
     -- where none was owed, and it has its next slot
-    module _ (events : ℕ) (t : State) (ends : EndsSlot i way.at.order h events t) where
-      pub some_events : 0 < events
-      some_events = let count = (its_slot v way.at h there events t ends).count in omega (arith, count)
+    module _ (t : State) (all : t.off ≡ None) (ends : EndsSlot i way.at.order h t) where
+      pub some_events : 0 < ends.events
+      some_events = let count = (its_slot v way.at h there t all ends).count in omega (arith, count)
 
-      pub slot_run : (k : ℕ) (names' : List ℕ) → k ≡ events - 1 → h < length owed → slice_index owed h ≡ 0
+      pub slot_run : (k : ℕ) (names' : List ℕ) → k ≡ ends.events - 1 → h < length owed → slice_index owed h ≡ 0
           → ((order : List ℕ) (table : Table ℕ) → StandsAfter (v.0, t) order → Owes i (set owed h k) table
           → names' ≡ left_in (v.0, t) order table n)
           → OnTheWay (v.0, t) seed n (suc before) f (set owed h k) names'
       slot_run k names' after_switch within none are =
-          let p = one_later v way.at h there events t ends in
-          let its = its_slot v way.at h there events t ends in
+          let p = one_later v way.at h there t all ends in
+          let its = its_slot v way.at h there t all ends in
           let own : k ≡ slot_events m h s.world = let count = its.count in omega (arith, count, after_switch) in
           let now : counted_after v p.order (put way.table h k) ≡ counted_if m h s 0 =
           ap (λ (x : Harts). record { world = x; owed = put way.table h k }) its.comes_to

@@ -1,3 +1,6 @@
+pub mod Offs
+pub mod Entered
+pub mod Among
 pub mod Others
 pub mod Running
 pub mod Beginning

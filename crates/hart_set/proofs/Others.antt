@@ -1,7 +1,7 @@
 -- What the code has of a hart while another has an event.
 use Rattle.std.proofs.Common.{◌≡◌, ◌∙◌, ℕ, Bool, true, false, Option, Some, None, refl, sym, ap, ap₂, subst, subst₂}
 use Rattle.std.proofs.lemmas.Option.{same_Some}
-use Rattle.std.specs.Prelude.{IfSome}
+use Rattle.std.specs.Prelude.{IfSome, if◌then◌else◌}
 use Rattle.phys_mem.specs.Mem.{Mem}
 use Rattle.sv32_walk.specs.Walk.{Walk}
 use Rattle.tlb_model.specs.Buffer.{Buffer}
@@ -11,21 +11,22 @@ use Rattle.repl_policy.specs.Members.{any_rule, any_stands_for}
 use Rattle.mem_system.specs.Hierarchy.{Hierarchy}
 use Rattle.mem_system.specs.Contents.{CoreContents, CoreStands, system, hierarchy_of}
 use Rattle.mem_system.specs.Translation.{KeepsLeaves}
+use Rattle.guards.specs.declared.Guard.{Guard}
 use Rattle.hardware_check.specs.Hardware.{Hardware}
+use Rattle.sched_table.specs.Schedule.{last_end}
 use Rattle.image_check.specs.Own.{Own}
 use Rattle.image_check.specs.Image.{Image, own_of}
 use Rattle.call_table.specs.Domain.{Dom}
 use Rattle.world_view.specs.Frames.{root_of}
-use Rattle.world_view.specs.Cost.{hierarchy}
 use Rattle.world_view.specs.Event.{Storage}
-use Rattle.world_view.specs.Machine.{Hart, hart_of, dom_of}
+use Rattle.world_view.specs.Machine.{Hart, World, Guards, guards_of, hart_of, clock_of, ended_of, dom_of}
 use Rattle.world_view.specs.Relations.{SameFrames, HasFacts}
-use Rattle.world_view.specs.Harts.{Harts, Progress, progress_of, slots_of, domain_in, end_on}
+use Rattle.world_view.specs.Harts.{Harts, Progress, progress_of, image_on, slots_of, domain_in, end_on, end_by}
 use Rattle.world_view.proofs.actions.TableLaws.{IsPage, Walkable, walkable, walk_alike, root_is}
 use Rattle.hart_orders.specs.declared.hart.Slot.{Slot}
 use Rattle.hart_orders.specs.declared.hart.Hart.{Hart as CodeHart}
 use Rattle.hart_set.specs.declared.set.State.{State}
-use Rattle.hart_set.specs.Standing.{HartStands, slot_of, slot_if}
+use Rattle.hart_set.specs.Standing.{HartStands, slot_of, slot_if, ended_if}
 
 -- ---- the hierarchy of a core over one second level, by that of another core over it
 
@@ -87,12 +88,32 @@ pub record Besides (i : Image) (h g : ℕ) (s s' : Harts) (t t' : State) : Type 
   pub facts : HasFacts i.all.hardware (own_of i (domain_in i g (slots_of g s)))
       (dom_of s.world (domain_in i g (slots_of g s))) s.world.storage
 
-module _ (i : Image) (h g : ℕ) (s s' : Harts) (t t' : State) (z x' : CodeHart) (b : Besides i h g s s' t t')
+module _ (i : Image) (h g : ℕ) (s s' : Harts) (t t' : State) (z x' : CodeHart) (off : t'.off ≡ t.off) (b : Besides i h g s s' t t')
     (was : HartStands i s t g z) (did : HartStands i s' t' h x') where
-  slot_is : slot_of i g s' ≡ slot_of i g s
-  slot_is = ap (λ (x : Progress). slot_if x.inside (domain_in i g x.slots) (end_on i g x.slots)) b.progress
+  abbrev on : Guards
+  on = guards_of t.off i
 
-  leaves_if : (o : Option Slot) → o ≡ slot_of i g s
+  end_is : (k : ℕ) → end_by on i g k s'.world ≡ end_by on i g k s.world
+  end_is k = ap (λ (x : Hart). if on.pad then end_on i g k else x.ended) b.hart
+
+  slot_is : slot_of (guards_of t'.off i) i g s' ≡ slot_of on i g s
+  slot_is =
+      ap (λ (o : Option Guard). slot_of (guards_of o i) i g s') off
+      ∙ ap (λ (x : Progress). slot_if x.inside (domain_in i g x.slots) (end_by on i g x.slots s'.world)) b.progress
+      ∙ ap (slot_if (progress_of g s).inside (domain_in i g (slots_of g s))) (end_is (slots_of g s))
+
+  ended_so : (inside : Bool) (k : ℕ) → ended_if inside on i g k s.world ≡ ended_if inside on i g k s'.world
+  ended_so true k = sym (end_is k)
+  ended_so false k = ap (λ (x : Hart). if on.pad then last_end (image_on i g).all.schedule k else x.ended) (sym b.hart)
+
+  ended_is : ended_if (progress_of g s).inside on i g (slots_of g s) s.world
+      ≡ ended_if (progress_of g s').inside (guards_of t'.off i) i g (slots_of g s') s'.world
+  ended_is =
+      ended_so (progress_of g s).inside (slots_of g s)
+      ∙ ap (λ (x : Progress). ended_if x.inside on i g x.slots s'.world) (sym b.progress)
+      ∙ ap (λ (o : Option Guard). ended_if (progress_of g s').inside (guards_of o i) i g (slots_of g s') s'.world) (sym off)
+
+  leaves_if : (o : Option Slot) → o ≡ slot_of on i g s
       → IfSome o (λ y. KeepsLeaves s.world.storage.mem t.memory.frames (root_of i.all.hardware (own_of i y.domain)) z.core.tlb)
       → IfSome o (λ y. KeepsLeaves s'.world.storage.mem t'.memory.frames (root_of i.all.hardware (own_of i y.domain)) z.core.tlb)
   leaves_if None is kept = tt
@@ -111,7 +132,10 @@ module _ (i : Image) (h g : ℕ) (s s' : Harts) (t t' : State) (z x' : CodeHart)
     machine = record {
       frames = did.machine.frames;
       holds = did.machine.holds;
-      levels = levels_over (hierarchy i.all.hardware) z.core x'.core t.l2 t'.l2 was.machine.levels did.machine.levels;
+      levels =
+          ap (λ (o : Option Guard). (guards_of o i).levels) off
+          ∙ levels_over on.levels z.core x'.core t.l2 t'.l2 was.machine.levels
+          (ap (λ (o : Option Guard). (guards_of o i).levels) (sym off) ∙ did.machine.levels);
       pinned = was.machine.pinned;
       caches = record {
         core = subst (λ (x : Hart). CoreStands any_stands_for z.core x.core) (sym b.hart) was.machine.caches.core;
@@ -121,5 +145,6 @@ module _ (i : Image) (h g : ℕ) (s s' : Harts) (t t' : State) (z x' : CodeHart)
     };
     slots = was.slots ∙ ap (λ (x : Progress). x.slots) (sym b.progress);
     slot = was.slot ∙ sym slot_is;
+    ended = was.ended ∙ ended_is;
     leaves = leaves_if z.slot was.slot was.leaves;
   }

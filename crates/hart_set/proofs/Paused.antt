@@ -1,5 +1,5 @@
 -- The code's harts while none is in a slot, and one slot later.
-use Rattle.std.proofs.Common.{◌≡◌, ◌≢◌, ◌∙◌, ℕ, ◌<◌, false, List, [], ◌++◌, replicate, inl, inr, sym, ap, subst}
+use Rattle.std.proofs.Common.{◌≡◌, ◌≢◌, ◌∙◌, ℕ, suc, ◌<◌, false, Option, None, List, [], ◌++◌, replicate, inl, inr, sym, ap, subst}
 use Rattle.std.proofs.lemmas.Bool.{cases_eq}
 use Rattle.std.proofs.lemmas.List.Elements.{All-nil, All-append, All-replicate}
 use Rattle.image_record.specs.Record.{Raw}
@@ -9,14 +9,17 @@ use Rattle.image_check.specs.Laws.{Runnable}
 use Rattle.event_orders.specs.Machine.{Machine}
 use Rattle.event_orders.specs.Laws.{AreBetween}
 use Rattle.event_orders.proofs.Steps.{run_others}
-use Rattle.world_view.specs.Harts.{Harts, progress_of, harts}
-use Rattle.world_view.specs.HartLaws.{AreHartsOf}
+use Rattle.guards.specs.declared.Guard.{Guard}
+use Rattle.world_view.specs.Harts.{Harts, progress_of, slots_of, harts, harts_by}
+use Rattle.world_view.specs.HartLaws.{AreHartsOf, IsBetween}
+use Rattle.world_view.proofs.harts.Clocks.{hart_between}
 use Rattle.hart_machine.specs.HartMachine.{machine_of}
 use Rattle.hart_machine.specs.Laws.{IsItsSlot}
 use Rattle.hart_machine.proofs.IsMachine.{is_machine}
-use Rattle.hart_machine.proofs.OneSlot.{harts_run, is_out, one_slot, reached}
+use Rattle.hart_machine.proofs.OneSlot.{harts_run, one_slot, reached}
 use Rattle.hart_machine.proofs.Reports.{first_between}
 use Rattle.hart_set.specs.declared.set.State.{State}
+use Rattle.hart_set.specs.Standing.{StandsFor}
 use Rattle.hart_set.specs.Slots.{EndsSlot}
 use Rattle.hart_set.specs.Models.{image_of, harts_after, StandsAfter}
 
@@ -36,13 +39,16 @@ at_first v r stands = record {
   stands = stands;
 }
 
-module _ (v : Raw × State) (p : Paused v) (h : ℕ) (there : h < harts_in (image_of v).all.schedule) (events : ℕ) (t : State)
-    (ends : EndsSlot (image_of v) p.order h events t) where
+module _ (v : Raw × State) (p : Paused v) (h : ℕ) (there : h < harts_in (image_of v).all.schedule) (t : State)
+    (all : t.off ≡ None) (ends : EndsSlot (image_of v) p.order h t) where
   abbrev i : Image
   i = image_of v
 
   abbrev m : Machine
   m = machine_of i
+
+  abbrev events : ℕ
+  events = ends.events
 
   abbrev pub order' : List ℕ
   order' = p.order ++ replicate events h
@@ -51,6 +57,15 @@ module _ (v : Raw × State) (p : Paused v) (h : ℕ) (there : h < harts_in (imag
   more =
       All-append (λ (g : ℕ). g < harts_in i.all.schedule) p.order (replicate events h) p.of_harts
       (All-replicate (λ (g : ℕ). g < harts_in i.all.schedule) events h there)
+
+  outside : (progress_of h (harts i order')).inside ≡ false
+  outside = subst (λ (o : Option Guard). (progress_of h (harts_by o i order')).inside ≡ false) all ends.outside
+
+  between : IsBetween i h (harts i order')
+  between = hart_between i h order' p.accepted more there outside
+
+  slots : slots_of h (harts i order') ≡ suc (slots_of h (harts i p.order))
+  slots = subst (λ (o : Option Guard). slots_of h (harts_by o i order') ≡ suc (slots_of h (harts_by o i p.order))) all ends.slots
 
   other_out : (g : ℕ) → g < harts_in i.all.schedule → g ≢ h → (progress_of g (harts i order')).inside ≡ false
   other_out g there' ne =
@@ -63,12 +78,18 @@ module _ (v : Raw × State) (p : Paused v) (h : ℕ) (there : h < harts_in (imag
   all_out g there' = elim (cases_eq g h) [
     | inl same ↦
         subst (λ (x : ℕ). (progress_of x (harts i order')).inside ≡ false) (sym same)
-        (is_out i h order' p.accepted more there ends.between)
+        outside
     | inr other ↦ other_out g there' other
   ]
 
   pub its_slot : IsItsSlot i h events (harts i p.order) (harts i order')
-  its_slot = one_slot i h events p.order p.accepted p.of_harts there (p.between h there) ends.between ends.slots
+  its_slot = one_slot i h events p.order p.accepted p.of_harts there (p.between h there) between slots
 
   abbrev pub one_later : Paused (v.0, t)
-  one_later = record { accepted = p.accepted; order = order'; of_harts = more; between = all_out; stands = ends.stands }
+  one_later = record {
+    accepted = p.accepted;
+    order = order';
+    of_harts = more;
+    between = all_out;
+    stands = subst (λ (o : Option Guard). StandsFor i (harts_by o i order') t) all ends.stands;
+  }

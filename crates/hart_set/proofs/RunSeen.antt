@@ -18,6 +18,7 @@ use Rattle.hart_machine.specs.Laws.{SameReport, slot_by_slot, drawn_slot_by_slot
 use Rattle.hart_machine.proofs.Reports.{slots}
 use Rattle.hart_machine.proofs.DrawnOrder.{drawn_by_slots}
 use Rattle.hart_set.specs.declared.set.State.{State}
+use Rattle.hart_set.specs.Standing.{StandsFor}
 use Rattle.hart_set.specs.Models.{image_of, harts_after, StandsAfter}
 use Rattle.hart_set.specs.Run.{StandsAt, HasRun}
 
@@ -82,11 +83,11 @@ module _ (v : Raw × State) (c : Choice) (n : ℕ) (has : HasRun v c n) where
   i = image_of v
 
   pub seen_of_run : (d : ℕ) (seen : View) → IsDomain i d
-      → ((order : List ℕ) → StandsAfter v order → seen ≡ view_on i d (harts_after v order))
+      → ((s : Harts) → StandsFor i s v.1 → seen ≡ view_on i d s)
       → seen ≡ view_in i d (ran i c n)
   unfolding view_on
-  seen_of_run d seen id is = is has.order has.stands ∙ sym (has.same.seen d id)
+  seen_of_run d seen id is = is (harts_after v has.order) has.stands ∙ sym (has.same.seen d id)
 
   pub used_of_run : (used : List Used)
-      → ((order : List ℕ) → StandsAfter v order → IsUsed used (harts_after v order).world.used) → IsUsed used (ran i c n).used
-  used_of_run used is = subst (IsUsed used) (sym has.same.used) (is has.order has.stands)
+      → ((s : Harts) → StandsFor i s v.1 → IsUsed used s.world.used) → IsUsed used (ran i c n).used
+  used_of_run used is = subst (IsUsed used) (sym has.same.used) (is (harts_after v has.order) has.stands)

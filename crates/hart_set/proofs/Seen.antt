@@ -1,9 +1,10 @@
 -- What is seen of a domain, and what switches took, of the code's harts.
-use Rattle.std.proofs.Common.{◌≡◌, ◌∙◌, ℕ, ◌<◌, ◌≤◌, List, Some, length, inl, inr, sym, ap, subst₂, arith}
+use Rattle.std.proofs.Common.{◌≡◌, ◌∙◌, ℕ, ◌^◌, ◌<◌, ◌≤◌, Option, Some, None, length, inl, inr, sym, ap, subst, subst₂, arith}
 use Rattle.std.specs.Prelude.{slice_get}
 use Rattle.std.proofs.lemmas.Option.{slice_get_cases}
+use Rattle.guards.specs.declared.Guard.{Guard}
 use Rattle.image_check.specs.Image.{Image, own_of}
-use Rattle.sched_table.specs.Schedule.{entry_in}
+use Rattle.sched_table.specs.Schedule.{entry_in, harts_in}
 use Rattle.sched_table.proofs.Harts.{hart_there_law}
 use Rattle.kernel_call.specs.declared.domain.Domain.{Domain}
 use Rattle.domain_open.proofs.Seen.{view_is}
@@ -11,8 +12,9 @@ use Rattle.world_view.specs.declared.used.Used.{Used}
 use Rattle.world_view.specs.Seen.{seen_of}
 use Rattle.world_view.specs.Machine.{dom_of}
 use Rattle.world_view.specs.Relations.{IsDomain}
-use Rattle.world_view.specs.Harts.{harts, start_on, hart_of_domain, view_on, view_alone_on}
-use Rattle.world_view.proofs.harts.Isolation.{hart_isolation, hart_largest}
+use Rattle.world_view.specs.Harts.{Harts, harts, harts_by, start_on, hart_of_domain, view_on, view_alone_on}
+use Rattle.world_view.proofs.harts.Isolation.{running, hart_isolation, hart_largest}
+use Rattle.world_view.proofs.time.ClockLaws.{clock_soon as clocks_soon}
 use Rattle.hart_orders.specs.declared.hart.Hart.{Hart as CodeHart}
 use Rattle.hart_set.specs.declared.set.State.{State}
 use Rattle.hart_set.specs.Standing.{StandsFor, AtHart}
@@ -30,6 +32,19 @@ hart_there t h within = elim (slice_get_cases t.harts.items h).1 [
 ]
 
 module _ (i : Image) (t : State) (c : IsReached i t) where
+  -- with all guards on its clock is far below what 64 bits hold
+  pub clock_soon : (h : ℕ) (x : CodeHart) → h < harts_in i.all.schedule → slice_get t.harts.items h ≡ Some x → t.off ≡ None
+      → x.clock < 2 ^ 61
+  clock_soon h x below got all =
+      let s = harts i c.order in
+      let stands = subst (λ (o : Option Guard). StandsFor i (harts_by o i c.order) t) all c.stands in
+      let is = stands.each_hart h x got in
+      let most = c.in_bounds.few_slots h x got in
+      let slots = is.slots in
+      let fits = clocks_soon i c.accepted h below s ((running i c.accepted c.order c.of_harts).hart h below) (omega (arith, most, slots)) in
+      let same = is.machine.time in
+      omega (arith, fits, same)
+
   -- that of a domain
   home_there : (d : ℕ) → HartThere t (hart_of_domain i d)
   home_there d =
@@ -40,26 +55,27 @@ module _ (i : Image) (t : State) (c : IsReached i t) where
   frames_are = let there = home_there 0 in (c.stands.each_hart (hart_of_domain i 0) there.hart there.got).machine.frames
 
   module _ (d : ℕ) (x : Domain) (got : slice_get t.domains.items d ≡ Some x) where
-    pub seen : (order : List ℕ) → StandsFor i (harts i order) t
-        → seen_of x t.memory ≡ view_on i d (harts i order)
+    pub seen : (s : Harts) → StandsFor i s t → seen_of x t.memory ≡ view_on i d s
     unfolding view_on
-    seen order stands =
+    seen s stands =
         let there = home_there d in
         let holds = (stands.each_hart (hart_of_domain i d) there.hart there.got).machine.holds in
         let is = stands.each_domain d x got in
-        let w = (harts i order).world in
+        let w = s.world in
         view_is i.all.hardware (own_of i d) x is.has t.memory frames_are (dom_of w d) w.storage is.dom holds
 
-    pub seen_alone : IsDomain i d → AtHart t (hart_of_domain i d)
+    pub seen_alone : IsDomain i d → t.off ≡ None → AtHart t (hart_of_domain i d)
         (λ y. y.clock < start_on i (hart_of_domain i d) y.slots → seen_of x t.memory ≡ view_alone_on i d y.slots)
-    seen_alone id y at early =
-        let is = c.stands.each_hart (hart_of_domain i d) y at in
+    seen_alone id all y at early =
+        let stands = subst (λ (o : Option Guard). StandsFor i (harts_by o i c.order) t) all c.stands in
+        let is = stands.each_hart (hart_of_domain i d) y at in
         let between = subst₂ (λ (n k : ℕ). n < start_on i (hart_of_domain i d) k) is.machine.time is.slots early in
-        seen c.order c.stands ∙ hart_isolation i d c.order c.accepted id c.of_harts between ∙ ap (view_alone_on i d) (sym is.slots)
+        seen (harts i c.order) stands ∙ hart_isolation i d c.order c.accepted id c.of_harts between ∙ ap (view_alone_on i d) (sym is.slots)
 
-  pub used_within : (e : ℕ) (u : Used) → slice_get t.used.items e ≡ Some u
+  pub used_within : t.off ≡ None → (e : ℕ) (u : Used) → slice_get t.used.items e ≡ Some u
       → u.largest ≤ (entry_in i.all.schedule e).pad
-  used_within e u got =
+  used_within all e u got =
       let most = hart_largest i c.order e c.accepted c.of_harts in
-      let is = c.stands.each_entry.largest e u got in
+      let stands = subst (λ (o : Option Guard). StandsFor i (harts_by o i c.order) t) all c.stands in
+      let is = stands.each_entry.largest e u got in
       omega (arith, most, is)

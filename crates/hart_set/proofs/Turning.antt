@@ -8,12 +8,10 @@ use Rattle.sched_table.specs.Schedule.{entry_in, entry_of_slot, switch_entry, st
 use Rattle.image_check.specs.declared.public.Public.{Public as CodePublic}
 use Rattle.image_check.specs.Public.{Public}
 use Rattle.image_check.specs.Models.{public_model}
-use Rattle.image_check.specs.Image.{Image, own_of}
+use Rattle.image_check.specs.Image.{Image}
 use Rattle.kernel_call.specs.declared.domain.Domain.{Domain}
-use Rattle.world_view.specs.Kernel.{layout}
-use Rattle.world_view.specs.Machine.{clone_of}
+use Rattle.world_view.specs.Machine.{Guards, guards_of, clone_by}
 use Rattle.world_view.specs.Relations.{IsDomain}
-use Rattle.world_view.specs.Harts.{image_on}
 use Rattle.world_view.proofs.harts.OnHart.{placed_switch}
 use Rattle.world_view.proofs.harts.Schedules.{one_each as every_hart, own_entries as entries_at}
 use Rattle.hart_orders.specs.declared.hart.Hart.{Hart as CodeHart}
@@ -45,8 +43,8 @@ turn_on es own h k t same entry begins ended last =
 -- ---- the domain whose slot was last
 
 -- nobody's before its first slot
-pub clone_first : (i : Image) (es : List Entry) (k : ℕ) → k ≡ 0 → None ≡ clone_of i (outgoing es k)
-clone_first i es k none = ap (λ (n : ℕ). clone_of i (outgoing es n)) (sym none)
+pub clone_first : (g : Guards) (es : List Entry) (k : ℕ) → k ≡ 0 → None ≡ clone_by g (outgoing es k)
+clone_first g es k none = ap (λ (n : ℕ). clone_by g (outgoing es n)) (sym none)
 
 module _ (i : Image) (t : State) (h : ℕ) (x : CodeHart) (c : Called i t h x) (ended : Entry)
     (is : ended ≡ entry_in (on_hart i.all.schedule h) (switch_entry (on_hart i.all.schedule h) x.slots)) where
@@ -61,10 +59,10 @@ module _ (i : Image) (t : State) (h : ℕ) (x : CodeHart) (c : Called i t h x) (
 
   own_clone : (k : ℕ) → (k ≡ 0 → ⊥)
       → ended ≡ entry_in (on_hart i.all.schedule h) (switch_entry (on_hart i.all.schedule h) k)
-      → Some (layout i.all.hardware (own_of i ended.domain)) ≡ clone_of (image_on i h) (outgoing (on_hart i.all.schedule h) k)
+      → Some ((guards_of t.off i).clone ended.domain) ≡ clone_by (guards_of t.off i) (outgoing (on_hart i.all.schedule h) k)
   own_clone zero some was = absurd (some refl)
-  own_clone (suc last) some was = ap (λ (e : Entry). Some (layout i.all.hardware (own_of i e.domain))) was
+  own_clone (suc last) some was = ap (λ (e : Entry). Some ((guards_of t.off i).clone e.domain)) was
 
   pub clone_before : (y : Domain) → slice_get t.domains.items ended.domain ≡ Some y → (x.slots ≡ 0 → ⊥)
-      → Some (layout_model y.layout) ≡ clone_of (image_on i h) (outgoing (on_hart i.all.schedule h) x.slots)
+      → Some (layout_model y.layout) ≡ clone_by (guards_of t.off i) (outgoing (on_hart i.all.schedule h) x.slots)
   clone_before y got some = ap Some (c.reached.stands.each_domain ended.domain y got).layout ∙ own_clone x.slots some is

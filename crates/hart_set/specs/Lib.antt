@@ -1,3 +1,4 @@
+pub mod Clones
 pub mod Turns
 pub mod Standing
 pub mod Reached

@@ -1,5 +1,5 @@
 // A run of an image's harts.
-ghost use Rattle.std.specs.Prelude.{◌≡◌, ◌<◌, ◌≤◌, [], List};
+ghost use Rattle.std.specs.Prelude.{◌≡◌, ◌<◌, ◌≤◌, [], List, None};
 ghost use Rattle.image_check.specs.Image.{image_from};
 ghost use Rattle.sched_table.specs.Schedule.{harts_in};
 ghost use Rattle.hart_set.specs.Models.{image_of as image_of_set, StandsAfter};
@@ -55,6 +55,7 @@ fn cycles_before(image: &Checked, slot: u32) -> u64
 // the events of its slot touch nothing that another hart's go by.
 fn run_by_slots(harts: &mut HartSet<'_>, slots: u32)
     requires few { slots ≤ 65536 }
+    requires all { harts.old.1.off ≡ None }
     requires first { StandsAfter harts.old [] }
     ensures image { harts.new.0 ≡ harts.old.0 }
     ensures slots { StandsAt harts.new (slot_by_slot (image_of_set harts.new) slots).world }
@@ -73,6 +74,7 @@ fn run_by_slots(harts: &mut HartSet<'_>, slots: u32)
 // is drawn, and each later draw counts off one of the slot's events.
 fn run_drawn(harts: &mut HartSet<'_>, seed: u32, slots: u32)
     requires few { slots ≤ 65536 }
+    requires all { harts.old.1.off ≡ None }
     requires first { StandsAfter harts.old [] }
     ensures image { harts.new.0 ≡ harts.old.0 }
     ensures slots { StandsAt harts.new (drawn_slot_by_slot (image_of_set harts.new) seed slots).world }
@@ -93,7 +95,7 @@ fn run_drawn(harts: &mut HartSet<'_>, seed: u32, slots: u32)
             owed[at] = 0;
             names = left(harts, slots, owed);
         } else {
-            owed[at] = harts.run_slot(h) - 1;
+            owed[at] = harts.run_counted(h) - 1;
             names = left(harts, slots, owed);
         }
     }
@@ -103,6 +105,7 @@ fn run_drawn(harts: &mut HartSet<'_>, seed: u32, slots: u32)
 // of a choice leads to.
 fn run_all(harts: &mut HartSet<'_>, choice: Choice, slots: u32)
     requires few { slots ≤ 65536 }
+    requires all { harts.old.1.off ≡ None }
     requires first { StandsAfter harts.old [] }
     ensures image { harts.new.0 ≡ harts.old.0 }
     ensures run { HasRun harts.new choice slots }

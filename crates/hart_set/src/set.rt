@@ -1,4 +1,5 @@
 // An image's harts, one event after another.
+use guards::Guard;
 use hart_orders::Hart;
 use image_check::Checked;
 use kernel_call::Domain;
@@ -13,6 +14,8 @@ mod calls;
 /// What the harts share, and each of them.
 #[derive(Drop)]
 pub struct State {
+    /// The guard that is off, if one is: only where there is one hart.
+    pub off: Option<Guard>,
     pub memory: PhysMem,
     pub l2: L2<AnyPolicy>,
     pub harts: Vec<Hart>,
@@ -21,8 +24,8 @@ pub struct State {
     pub used: Vec<Used>,
 }
 
-/// The harts of an image between two events. It stands for the definition of them
-/// after some order of events; it keeps no order.
+/// The harts of an image between two events, with all guards on or one hart with one off. It
+/// stands for the definition of them after some order of events; it keeps no order.
 #[derive(Drop)]
 pub struct HartSet<'a> {
     image: &'a Checked,

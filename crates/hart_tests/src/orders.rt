@@ -1,5 +1,5 @@
 // The orders in which harts take their events.
-ghost use Rattle.std.specs.Prelude.{◌≡◌};
+ghost use Rattle.std.specs.Prelude.{◌≡◌, None};
 
 use crate::images::sections;
 use hart_set::HartSet;
@@ -66,6 +66,7 @@ impl Order {
 
 /// Runs the harts in this order until each has had so many slots, 65,536 at most.
 pub fn run(rt: &impl Abort, harts: &mut HartSet<'_>, slots: u32, mut order: Order, stride: Stride)
+    requires all { harts.old.1.off ≡ None }
     ensures image { harts.new.0 ≡ harts.old.0 }
 {
     for _ in 0..EVENTS {

@@ -1,6 +1,6 @@
 // Two domains, each on a hart of its own and counted by hand: each reads the clock
 // before and after it prints.
-ghost use Rattle.std.specs.Prelude.{◌≡◌};
+ghost use Rattle.std.specs.Prelude.{◌≡◌, None};
 
 use crate::images::{on_harts, sections, sections_alone, without_last};
 use crate::orders::{Order, Stride, run, sections_after};
@@ -98,6 +98,7 @@ fn run_both(
     order: Order,
     stride: Stride,
 ) -> (Used, Used)
+    requires all { harts.old.1.off ≡ None }
     ensures image { harts.new.0 ≡ harts.old.0 }
 {
     run(rt, harts, slots, order, stride);

@@ -1,5 +1,3 @@
-pub mod Guarded
-pub mod Propositions
 pub mod Models
 pub mod OneHart
 pub mod Ablated

@@ -1,31 +1,33 @@
 // The whole machine with one guard off.
-use crate::guarded::GuardedMachine;
 use domain_view::View;
 use guards::Guard;
+use hart_set::HartSet;
 use image_check::Checked;
 use std::alloc::Global;
 use std::marker::Model;
 use tp_base::Memory;
 use world_view::Used;
 
-/// The whole machine with one guard off, between two slots. Its data stand for the
-/// definition of that machine after so many slots; no isolation and no pad is
-/// promised of it.
+/// The machine of an image of one hart with one guard off, between two slots: the hart set
+/// of that hart. It stands for the definition of that machine after so many slots; no
+/// isolation and no pad is promised of it.
 #[derive(Drop)]
 pub struct Ablated<'a> {
     off: Guard,
-    guarded: GuardedMachine<'a>,
+    harts: HartSet<'a>,
+    slots: u32,
 }
 
 impl<'a> Model for Ablated<'a> {
-    ghost use Rattle.std.specs.Prelude.{◌≡◌, Some};
-    ghost use Rattle.tp_machine.specs.Ablated.{Ablation, ran_off};
+    ghost use Rattle.std.specs.Prelude.{Some};
+    ghost use Rattle.tp_machine.specs.Ablated.{Ablation};
+    ghost use Rattle.tp_machine.specs.OneHart.{HasRun};
 
     ghost Value = { Ablation };
 
-    ghost view = { λ m. ran_off m.off m.guarded };
+    ghost view = { λ m. record { record_of = m.harts.0; off = m.off; slots = m.slots } };
 
-    ghost invariant = { λ m. m.guarded.off ≡ Some m.off };
+    ghost invariant = { λ m. HasRun (Some m.off) m.harts m.slots };
 }
 
 impl<'a> Ablated<'a> {
@@ -46,11 +48,16 @@ impl<'a> Ablated<'a> {
     pub fn load(alloc: Global, image: &'a Checked, off: Guard) -> Result<Self, Memory>
         requires one { IsOnOneHart (image_from image.now) }
         ensures slots { IfOk result (λ m. m.slots ≡ 0) }
-        ensures image { IfOk result (λ m. m.image.now ≡ image.now) }
+        ensures image { IfOk result (λ m. m.record_of ≡ image.now) }
         ensures off { IfOk result (λ m. m.off ≡ off) }
     {
-        let guarded = GuardedMachine::load(alloc, image, Some(off))?;
-        Ok(Ablated { off, guarded })
+        image.runnable();
+        let harts = HartSet::without(alloc, image, off)?;
+        Ok(Ablated {
+            off,
+            harts,
+            slots: 0,
+        })
     }
 
     /// The machine of an image of one hart after so many slots, 65,536 at most.
@@ -61,18 +68,24 @@ impl<'a> Ablated<'a> {
         requires few { slots ≤ 65536 }
         requires one { IsOnOneHart (image_from image.now) }
         ensures slots { IfOk result (λ m. m.slots ≡ slots) }
-        ensures image { IfOk result (λ m. m.image.now ≡ image.now) }
+        ensures image { IfOk result (λ m. m.record_of ≡ image.now) }
         ensures off { IfOk result (λ m. m.off ≡ off) }
     {
-        let guarded = GuardedMachine::after(alloc, image, Some(off), slots)?;
-        Ok(Ablated { off, guarded })
+        let mut machine = match Ablated::load(alloc, image, off) {
+            Ok(machine) => machine,
+            Err(Memory) => return Err(Memory),
+        };
+        for slot in 0..slots {
+            machine.run_slot();
+        }
+        Ok(machine)
     }
 
     /// The image that it runs.
     pub fn image(&self) -> &Checked
-        ensures image { result.now ≡ self.now.image.now }
+        ensures image { result.now ≡ self.now.record_of }
     {
-        self.guarded.image
+        self.harts.image()
     }
 
     /// The guard that is off.
@@ -86,10 +99,11 @@ impl<'a> Ablated<'a> {
     pub fn run_slot(&mut self)
         requires slots { self.old.slots < 65536 }
         ensures slots { self.new.slots ≡ self.old.slots + 1 }
-        ensures image { self.new.image.now ≡ self.old.image.now }
+        ensures image { self.new.record_of ≡ self.old.record_of }
         ensures off { self.new.off ≡ self.old.off }
     {
-        self.guarded.run_slot();
+        self.harts.run_slot(0);
+        self.slots += 1;
     }
 
     /// What is seen of a domain after the slots that have run.
@@ -97,7 +111,7 @@ impl<'a> Ablated<'a> {
         requires domain { d < length (image_off self.now).owns }
         ensures view { view_model result ≡ view_off self.now.off (image_off self.now) d self.now.slots }
     {
-        self.guarded.view(d)
+        self.harts.view(d)
     }
 
     /// What the switches of an entry took.
@@ -106,7 +120,7 @@ impl<'a> Ablated<'a> {
         ensures largest { result.largest ≡ largest_of entry (world_off self.now).used }
         ensures count { result.count ≡ count_of entry (world_off self.now).used }
     {
-        self.guarded.used(entry)
+        self.harts.used(entry)
     }
 
     /// What the switches of each entry took.
@@ -114,12 +128,12 @@ impl<'a> Ablated<'a> {
         ensures all { length result.now ≡ length (image_off self.now).all.schedule }
         ensures each { IsUsed result.now (world_off self.now).used }
     {
-        self.guarded.all_used()
+        self.harts.all_used()
     }
 
     /// Frees it. The drops of its parts are checked by this, and not again in each crate
     /// that would drop it.
     pub fn discard(self) {
-        self.guarded.discard();
+        self.harts.discard();
     }
 }

@@ -16,6 +16,7 @@ pub struct Machine<'a> {
 }
 
 impl<'a> Model for Machine<'a> {
+    ghost use Rattle.std.specs.Prelude.{None};
     ghost use Rattle.tp_machine.specs.Models.{Ran};
     ghost use Rattle.tp_machine.specs.OneHart.{HasRun};
 
@@ -23,7 +24,7 @@ impl<'a> Model for Machine<'a> {
 
     ghost view = { λ m. record { record_of = m.harts.0; slots = m.slots } };
 
-    ghost invariant = { λ m. HasRun m.harts m.slots };
+    ghost invariant = { λ m. HasRun None m.harts m.slots };
 }
 
 impl<'a> Machine<'a> {

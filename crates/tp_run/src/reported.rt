@@ -55,9 +55,9 @@ impl<'a> Reported for Machine<'a> {
 }
 
 impl<'a> Reported for Ablated<'a> {
-    ghost image = { λ m. image_from m.image.now };
+    ghost image = { λ m. image_from m.record_of };
 
-    ghost world = { λ m. whole_off m.off (image_from m.image.now) m.slots };
+    ghost world = { λ m. whole_off m.off (image_from m.record_of) m.slots };
 
     fn checked(&self) -> &Checked {
         self.image()

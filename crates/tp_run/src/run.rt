@@ -71,7 +71,7 @@ pub fn run_off<K: Sink>(
 #[tactic(auto, unfolding(tp_report::specs::Report::report_off))]
 fn write_report_off<K: Sink>(out: &mut K, machine: &Ablated<'_>) -> Result<(), Failed>
     ensures sends { Sends (state K.Sink out.old) (state K.Sink out.new)
-        result (spec.report_off machine.now.off (image_from machine.now.image.now) machine.now.slots) }
+        result (spec.report_off machine.now.off (image_from machine.now.record_of) machine.now.slots) }
 {
     write_unprotected(out, machine.off())?;
     write_report(out, machine)

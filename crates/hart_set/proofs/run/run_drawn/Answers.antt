@@ -1,4 +1,4 @@
-use Rattle.std.proofs.Common.{◌≡◌, ◌∙◌, ℕ, zero, suc, ◌+◌, ◌-◌, ◌<◌, ◌≤◌, List, [], ◌∷◌, length, Some, refl, sym, ap, subst, arith}
+use Rattle.std.proofs.Common.{◌≡◌, ◌∙◌, ℕ, zero, suc, ◌+◌, ◌-◌, ◌<◌, ◌≤◌, List, [], ◌∷◌, length, Option, Some, None, refl, sym, ap, subst, arith}
 use Rattle.std.specs.Prelude.{slice_index}
 use Rattle.std.proofs.Math.ListN.{set}
 use Rattle.std.proofs.lemmas.List.{length-set}
@@ -13,6 +13,9 @@ use Rattle.sched_table.specs.Schedule.{harts_in}
 use Rattle.sched_table.proofs.HartSchedules.{few_harts}
 use Rattle.event_orders.specs.Orders.{named}
 use Rattle.hart_orders.specs.Order.{cycles_before}
+use Rattle.guards.specs.declared.Guard.{Guard}
+use Rattle.world_view.specs.Harts.{harts_by}
+use Rattle.hart_set.specs.Standing.{StandsFor}
 use Rattle.hart_set.specs.declared.set.State.{State}
 use Rattle.hart_set.specs.declared.choice.Names.{Names}
 use Rattle.hart_set.specs.Slots.{EndsSlot}
@@ -40,6 +43,7 @@ loop-init c =
     let first = rw c.from.ensures at c.seeded-words.ensures.value in
     record {
       image = refl;
+      all = c.requires.all;
       words = first ∙ sym (after_none _);
       four = refl;
       few = c.left-names.ensures.few;
@@ -113,14 +117,17 @@ bounds-owed-at-else-owed-at-eq1 c =
     within c.loop.harts c.args.seed c.args.slots c.cycles_before-most.result c.loop.counter c.draw.result c.in-Some.h c.from-at.result
     c.loop.owed (names_in c.loop.names) c.loop-test.true c.loop.invariant.way (sym c.named.ensures.named ∙ c.in-Some.is) c.from-at.ensures
 
-pub run_slot-requires-clause-hart : goal.run_slot-requires-clause-hart
-run_slot-requires-clause-hart c =
+pub run_counted-requires-clause-hart : goal.run_counted-requires-clause-hart
+run_counted-requires-clause-hart c =
     there c.loop.harts c.args.seed c.args.slots c.cycles_before-most.result c.loop.counter c.draw.result c.in-Some.h c.from-at.result
     c.loop.owed (names_in c.loop.names) c.loop-test.true c.loop.invariant.way (sym c.named.ensures.named ∙ c.in-Some.is) c.from-at.ensures
 
 -- it owes nothing, so it has slots left
-pub run_slot-requires-clause-slots : goal.run_slot-requires-clause-slots
-run_slot-requires-clause-slots c x got =
+pub run_counted-requires-clause-moments : goal.run_counted-requires-clause-moments
+run_counted-requires-clause-moments c is = absurd (cc (is, c.loop.invariant.all))
+
+pub run_counted-requires-clause-slots : goal.run_counted-requires-clause-slots
+run_counted-requires-clause-slots c x got =
     let v = c.loop.harts in
     let inv = c.loop.invariant in
     let names = names_in c.loop.names in
@@ -142,10 +149,13 @@ overflow_sub-owed-else-owed-at-eq1 c =
     let names = names_in c.loop.names in
     let most = c.cycles_before-most.result in
     let way = one_fewer v c.args.seed c.args.slots most c.loop.counter c.loop.owed names c.loop-test.true inv.way in
+    let ends = c.run_counted.ensures.ends way.at.order way.at.of_harts
+    (subst (λ (o : Option Guard). StandsFor (image_of v) (harts_by o (image_of v) way.at.order) v.1) (sym inv.all) way.at.stands) in
+    let some =
     some_events v c.args.seed c.args.slots c.loop.counter (most - (c.loop.counter + 1)) c.loop.owed names way c.draw.result c.in-Some.h
     (word_is c.args.seed c.loop.counter c.draw.result c.loop.words inv.words c.draw.ensures.value)
-    (sym c.named.ensures.named ∙ c.in-Some.is) c.run_slot.result c.run_slot.new.self.1
-    (c.run_slot.ensures.ends way.at.order way.at.of_harts way.at.stands)
+    (sym c.named.ensures.named ∙ c.in-Some.is) c.run_counted.new.self.1 (c.run_counted.ensures.off ∙ inv.all) ends.0 in
+    omega (arith, some, ends.1)
 
 -- ---- one draw more
 
@@ -184,6 +194,7 @@ loop-preserved c =
           let o = set owed k (slice_index owed k - 1) in
           record {
             image = ap (λ (u : Raw × State). u.0) b.harts-is ∙ inv.image;
+            all = ap (λ (u : Raw × State). u.1.off) b.harts-is ∙ inv.all;
             words = words;
             four = ap length b.owed-is ∙ length-set owed k (slice_index owed k - 1) ∙ inv.four;
             few = subst (λ (x : Names). x.many ≤ 4) (sym b.names-is) inv.few;
@@ -197,6 +208,7 @@ loop-preserved c =
           let x = b.left-names-then-owed-at-eq1.result in
           record {
             image = ap (λ (u : Raw × State). u.0) b.harts-is ∙ inv.image;
+            all = ap (λ (u : Raw × State). u.1.off) b.harts-is ∙ inv.all;
             words = words;
             four = ap length b.owed-is ∙ length-set owed k 0 ∙ inv.four;
             few = subst (λ (y : Names). y.many ≤ 4) (sym b.names-is) b.left-names-then-owed-at-eq1.ensures.few;
@@ -207,20 +219,24 @@ loop-preserved c =
                 b.left-names-then-owed-at-eq1.ensures.names));
           }
       | else-owed-at-gt1+else-owed-at-eq1 b ↦
-          let u = b.run_slot.new.self in
-          let events = b.run_slot.result in
+          let u = b.run_counted.new.self in
+          let events = b.run_counted.result in
           let o = set owed k (events - 1) in
           let x = b.left-names-else-owed-at-eq1.result in
-          let image = b.run_slot.ensures.image in
+          let image = b.run_counted.ensures.image in
           let none : slice_index owed k ≡ 0 = omega (arith, b.if-owed-at-gt1, b.if-owed-at-eq1) in
-          let ends =
-          subst (λ (g : ℕ). EndsSlot (image_of v) way.at.order g events u.1) (sym c.from-at.ensures)
-          (b.run_slot.ensures.ends way.at.order way.at.of_harts way.at.stands) in
+          let still = b.run_counted.ensures.off ∙ inv.all in
+          let ends : (ends : EndsSlot (image_of v) way.at.order k u.1) × (ends.events ≡ events) =
+          subst (λ (g : ℕ). (ends : EndsSlot (image_of v) way.at.order g u.1) × (ends.events ≡ events)) (sym c.from-at.ensures)
+          (b.run_counted.ensures.ends way.at.order way.at.of_harts
+          (subst (λ (o : Option Guard). StandsFor (image_of v) (harts_by o (image_of v) way.at.order) v.1) (sym inv.all) way.at.stands)) in
+          let counted : events - 1 ≡ ends.0.events - 1 = omega (arith, ends.1) in
           let are =
           subst (λ (y : Raw). (order : List ℕ) (table : Table ℕ) → StandsAfter (y, u.1) order → Owes (image_from y) o table
           → names_in x ≡ left_in (y, u.1) order table n) image b.left-names-else-owed-at-eq1.ensures.names in
           record {
             image = ap (λ (z : Raw × State). z.0) b.harts-is ∙ image ∙ inv.image;
+            all = ap (λ (z : Raw × State). z.1.off) b.harts-is ∙ still;
             words = words;
             four = ap length b.owed-is ∙ length-set owed k (events - 1) ∙ inv.four;
             few = subst (λ (y : Names). y.many ≤ 4) (sym b.names-is) b.left-names-else-owed-at-eq1.ensures.few;
@@ -228,6 +244,6 @@ loop-preserved c =
                 moved P u c.if-owed-at-gt1.harts o c.if-owed-at-gt1.owed x c.if-owed-at-gt1.names b.harts-is b.owed-is b.names-is
                 (on u o x
                 (subst (λ (y : Raw). OnTheWay (y, u.1) seed n (suc j) f o (names_in x)) (sym image)
-                (slot_run v seed n j f owed names way w k value named_k events u.1 ends (events - 1) (names_in x) refl inside none are)));
+                (slot_run v seed n j f owed names way w k value named_k u.1 still ends.0 (events - 1) (names_in x) counted inside none are)));
           }
     ]

@@ -18,9 +18,9 @@ returns-in-Ok g c =
     let old = state g.K.Sink c.args.out.now in
     let new = state g.K.Sink c.write_report_off.new.out in
     let result = c.status_unless_failed-status.result in
-    let done = delivered Done result (report_off m.off (image_from m.image.now) m.slots) old new c.write_report_off.result tt
+    let done = delivered Done result (report_off m.off (image_from m.record_of) m.slots) old new c.write_report_off.result tt
     c.write_report_off.ensures.sends c.status_unless_failed-status.ensures.ok c.status_unless_failed-status.ensures.err in
-    let its = subst (λ (off : Guard). Delivers (Done, report_off off (image_from m.image.now) m.slots) result old new)
+    let its = subst (λ (off : Guard). Delivers (Done, report_off off (image_from m.record_of) m.slots) result old new)
     c.in-Ok.ensures.off done in
     record {
       delivers = subst₂ (λ (x : text.Raw) (n : ℕ). Delivers (Done, report_off c.args.off (image_from x) n) result old new)

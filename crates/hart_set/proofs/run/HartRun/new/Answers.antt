@@ -9,6 +9,7 @@ use Rattle.hart_set.proofs.run.HartRun.new.Goals as goal
 pub run_all-requires : goal.run_all-requires
 run_all-requires c = record {
   few = c.requires.few;
+  all = c.in_ok-harts.ensures.off;
   first =
       subst (λ (x : Raw). StandsFor (image_from x) (harts (image_from x) []) c.in_ok-harts.harts.1) (sym c.in_ok-harts.ensures.image)
       c.in_ok-harts.ensures.stands;

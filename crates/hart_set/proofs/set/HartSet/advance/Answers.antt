@@ -1,14 +1,18 @@
-use Rattle.std.proofs.Common.{◌≡◌, ◌∙◌, ℕ, ◌+◌, ◌<◌, ◌≤◌, Some, None, ◌⊎◌, ap, add-one, slice_get, inl, inr, refl, sym, subst, arith}
+use Rattle.std.proofs.Common.{◌≡◌, ◌≢◌, true, ◌∙◌, ℕ, ◌+◌, ◌<◌, ◌≤◌, Some, None, ◌⊎◌, ap, add-one, slice_get, inl, inr, refl, sym, subst, arith}
 use Rattle.std.proofs.Math.ListN.{set}
 use Rattle.image_record.specs.Record.{Raw}
 use Rattle.image_check.specs.Image.{Image, image_from}
+use Rattle.guards.specs.declared.Guard.TheVariants as guard
+use Rattle.world_view.specs.Machine.{guards_of}
 use Rattle.hart_orders.specs.declared.hart.Hart.{Hart}
 use Rattle.hart_set.specs.declared.set.State.{State}
 use Rattle.hart_set.specs.declared.set.calls.Stride.{Stride}
 use Rattle.hart_set.specs.declared.set.calls.Stride.TheVariants as stride
 use Rattle.hart_set.specs.Reached.{IsReached}
 use Rattle.hart_set.specs.Models.{image_of}
-use Rattle.hart_set.proofs.Called.{Called, NextStands, SlotEnds, called, within, at_hart, to_value}
+use Rattle.hart_set.specs.Slots.{NextStands, SlotEndsIn}
+use Rattle.hart_set.proofs.Offs.{own_moments}
+use Rattle.hart_set.proofs.Called.{Called, called, within, at_hart, to_value}
 use Rattle.hart_set.proofs.Running.{StepEnd, GoesOn, IsOver}
 use Rattle.hart_set.proofs.GoingOn.{domain_there, slot_read, before, end_fits, frames_few, runs_here, counted_here, gone_on, reached_on, gone_through, reached_through}
 use Rattle.repl_policy.specs.Members.{any_rule, any_stands_for}
@@ -137,7 +141,7 @@ either : (c : goal.Joined-slot-hart) (P : Image → State → Type 0)
 either c P so = elim c.if-slot-hart.branch [
   | then-slot-hart w ↦
       subst (λ q. P (image_from q.image.now) q.state) (sym w.self-inside-is)
-      (so _ (record { core = c.run_until-ran.new.core; clock = c.run_until-ran.result.clock; slots = c.index_mut-hart.result.now.slots + 1; slot = None })
+      (so _ (record { core = c.run_until-ran.new.core; clock = c.run_until-ran.result.clock; slots = c.index_mut-hart.result.now.slots + 1; slot = None; ended = c.index_mut-hart.result.now.ended })
       (inr (record {
         past = w.if-slot-hart.true;
         kept = record {
@@ -147,6 +151,8 @@ either c P so = elim c.if-slot-hart.branch [
           clock = refl;
           slots = add-one c.index_mut-hart.result.now.slots;
           now_in = refl;
+          ended = refl;
+          off = refl;
           harts = refl;
           domains = ap (λ (d : ℕ). set c.self.inside.state.domains.items d c.run_until-ran.new.domain) c.from.ensures;
           used = refl;
@@ -159,6 +165,7 @@ either c P so = elim c.if-slot-hart.branch [
         clock = c.run_until-ran.result.clock;
         slots = c.index_mut-hart.result.now.slots;
         slot = c.index_mut-hart.result.now.slot;
+        ended = c.index_mut-hart.result.now.ended;
       })
       (inl (record {
         soon = omega (arith, w.if-slot-hart.false);
@@ -169,6 +176,8 @@ either c P so = elim c.if-slot-hart.branch [
           clock = refl;
           slots = refl;
           now_in = in_slot c;
+          ended = refl;
+          off = refl;
           harts = refl;
           domains = ap (λ (d : ℕ). set c.self.inside.state.domains.items d c.run_until-ran.new.domain) c.from.ensures;
           used = refl;
@@ -190,6 +199,12 @@ along_all c all =
 past_all : (c : goal.Joined-slot-hart) → c.args.stride ≡ stride.Slot → c.args.slot.end ≤ (left c).clock
 past_all c all = let until = c.until-until.ensures.slot all in omega (arith, until, c.run_until-ran.ensures.over)
 
+-- its own moments come
+own : (c : goal.Joined-slot-hart) → (guards_of c.self.inside.state.off (image_from c.self.inside.image.now)).irq ≡ true
+own c =
+    let other = subst (λ (u : Raw × State). u.1.off ≢ Some guard.Irq) (sym c.self.view_is) c.requires.moments in
+    sym (own_moments c.self.inside.state.off (image_from c.self.inside.image.now) other)
+
 -- by one event or to the slot's end
 strides : (s : Stride) → (s ≡ stride.Event) ⊎ (s ≡ stride.Slot)
 strides stride.Event = inl refl
@@ -205,16 +220,18 @@ invariant_of-self c =
     let few =
     at_hart c.self.inside.image.now t c.args.self.now c.self.view_is c.args.h x (λ y. y.slots < 65536) (here c).got c.requires.slots in
     let counted = c.run_until-ran.ensures.few in
+    let soon = c.run_until-ran.ensures.soon c.until-until.ensures.later in
     let later : x.clock < (left c).clock = omega (arith, c.until-until.ensures.later, c.run_until-ran.ensures.over) in
     elim (strides c.args.stride) [
       | inl one ↦
           either c IsReached (λ t' x' which.
           reached_on i t c.args.h x (here c) slot (in_slot c) y (got_after c) (left c) t' x' which
-          (c.run_until-ran.ensures.once (c.until-until.ensures.event one)) few counted later)
+          (own c) (c.run_until-ran.ensures.once (c.until-until.ensures.event one)) few counted later soon)
       | inr all ↦
           either c IsReached (λ t' x' which.
-          reached_through i t c.args.h x (here c) slot (in_slot c) y (got_after c) (left c) t' x' which c.run_until-ran.result.events
-          (c.run_until-ran.ensures.whole (c.until-until.ensures.slot all)) (along_all c all) (past_all c all) few counted later)
+          reached_through i t c.args.h x (here c) slot (in_slot c) y (got_after c) (left c) t' x' which
+          (own c) c.run_until-ran.result.events (c.run_until-ran.ensures.whole (c.until-until.ensures.slot all))
+          (along_all c all) (past_all c all) few counted later soon)
     ]
 
 pub returns-clause-image : goal.returns-clause-image
@@ -225,23 +242,31 @@ returns-clause-image c =
       | else-slot-hart w ↦ ap (λ q. q.image.now) w.self-inside-is ∙ same
     ]
 
+pub returns-clause-off : goal.returns-clause-off
+returns-clause-off c =
+    let same = ap (λ (v : Raw × State). v.1.off) c.self.view_is in
+    elim c.if-slot-hart.branch [
+      | then-slot-hart w ↦ ap (λ q. q.state.off) w.self-inside-is ∙ same
+      | else-slot-hart w ↦ ap (λ q. q.state.off) w.self-inside-is ∙ same
+    ]
+
 pub returns-clause-next : goal.returns-clause-next
 returns-clause-next c one =
     let t = c.self.inside.state in
     either c (λ i t'. NextStands (image_of c.args.self.now) c.args.h c.args.self.now.1 t') (λ t' x' which.
     to_value c.self.inside.image.now t c.args.self.now c.self.view_is (λ (i : Image) (u : State). NextStands i c.args.h u t')
     (gone_on (image_from c.self.inside.image.now) t c.args.h c.index_mut-hart.result.now (here c) c.args.slot
-    (in_slot c) c.index_mut.result.now (got_after c) (left c) t' x' which
+    (in_slot c) c.index_mut.result.now (got_after c) (left c) t' x' which (own c)
     (c.run_until-ran.ensures.once (c.until-until.ensures.event one))))
 
 pub returns-clause-ends : goal.returns-clause-ends
 returns-clause-ends c all =
     let t = c.self.inside.state in
-    either c (λ i t'. SlotEnds (image_of c.args.self.now) c.args.h c.run_until-ran.result.events c.args.self.now.1 t') (λ t' x' which.
+    either c (λ i t'. SlotEndsIn (image_of c.args.self.now) c.args.h c.run_until-ran.result.events c.args.self.now.1 t') (λ t' x' which.
     to_value c.self.inside.image.now t c.args.self.now c.self.view_is
-    (λ (i : Image) (u : State). SlotEnds i c.args.h c.run_until-ran.result.events u t')
+    (λ (i : Image) (u : State). SlotEndsIn i c.args.h c.run_until-ran.result.events u t')
     (gone_through (image_from c.self.inside.image.now) t c.args.h c.index_mut-hart.result.now (here c) c.args.slot
-    (in_slot c) c.index_mut.result.now (got_after c) (left c) t' x' which c.run_until-ran.result.events
+    (in_slot c) c.index_mut.result.now (got_after c) (left c) t' x' which (own c) c.run_until-ran.result.events
     (c.run_until-ran.ensures.whole (c.until-until.ensures.slot all)) (along_all c all) (past_all c all)))
 
 pub returns-clause-few : goal.returns-clause-few

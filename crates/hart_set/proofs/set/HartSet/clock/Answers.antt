@@ -1,9 +1,10 @@
-use Rattle.std.proofs.Common.{◌≡◌, ℕ, refl, subst, arith}
+use Rattle.std.proofs.Common.{◌≡◌, ℕ, ◌^◌, ◌<◌, None, refl, subst, arith}
 use Rattle.std.specs.Prelude.{slice_index_or}
 use Rattle.image_check.specs.Image.{Image, image_from}
 use Rattle.hart_orders.specs.declared.hart.Hart.{Hart}
-use Rattle.hart_set.proofs.Called.{Called, called, for_hart, within}
-use Rattle.hart_set.proofs.Starting.{clock_soon}
+use Rattle.hart_set.proofs.Called.{Called, called, for_hart, to_value, within}
+use Rattle.hart_set.specs.declared.set.State.{State}
+use Rattle.hart_set.proofs.Seen.{clock_soon}
 use Rattle.hart_set.proofs.set.HartSet.clock.Goals as goal
 
 pub index-requires : goal.index-requires
@@ -30,4 +31,7 @@ returns-clause-value c =
 
 pub returns-clause-soon : goal.returns-clause-soon
 returns-clause-soon c =
-    clock_soon (image_from c.self.inside.image.now) c.self.inside.state c.args.h c.index.result.now (call c)
+    to_value c.self.inside.image.now c.self.inside.state c.args.self.now c.self.view_is
+    (λ (i : Image) (t : State). t.off ≡ None → c.index.result.now.clock < 2 ^ 61)
+    (λ all. clock_soon (image_from c.self.inside.image.now) c.self.inside.state c.self.invariant c.args.h c.index.result.now
+    (call c).below (call c).got all)

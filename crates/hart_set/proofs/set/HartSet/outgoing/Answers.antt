@@ -2,10 +2,10 @@ use Rattle.std.proofs.Common.{◌≡◌, Some, None, refl, arith}
 use Rattle.kernel_clone.specs.Models.{layout_model}
 use Rattle.sched_table.specs.Schedule.{entry_in, on_hart, switch_entry, outgoing}
 use Rattle.image_check.specs.Image.{Image, image_from}
-use Rattle.world_view.specs.Machine.{clone_of}
-use Rattle.world_view.specs.Harts.{image_on}
+use Rattle.world_view.specs.Machine.{guards_of, clone_by}
+use Rattle.hart_set.specs.declared.set.State.{State}
 use Rattle.hart_orders.specs.declared.hart.Hart.{Hart}
-use Rattle.hart_set.proofs.Called.{called, within, value_at, for_hart, domain_read}
+use Rattle.hart_set.proofs.Called.{called, within, value_at, for_state, domain_read}
 use Rattle.hart_set.proofs.Turning.{ended_there, ended_named, clone_before, clone_first}
 use Rattle.hart_set.proofs.set.HartSet.outgoing.Goals as goal
 
@@ -24,9 +24,9 @@ returns-then-index-eq0 c =
     let k = called c.self.inside.image.now t c.args.self.now c.self.view_is c.args.h c.requires.hart c.self.invariant x c.index.ensures in
     record {
       clone =
-          for_hart c.self.inside.image.now t c.args.self.now c.self.view_is c.args.h x
-          (λ (j : Image) (y : Hart). None ≡ clone_of (image_on j c.args.h) (outgoing (on_hart j.all.schedule c.args.h) y.slots))
-          k.got (clone_first (image_on i c.args.h) (on_hart i.all.schedule c.args.h) x.slots c.if-index-eq0.true);
+          for_state c.self.inside.image.now t c.args.self.now c.self.view_is c.args.h x
+          (λ (j : Image) (u : State) (y : Hart). None ≡ clone_by (guards_of u.off j) (outgoing (on_hart j.all.schedule c.args.h) y.slots))
+          k.got (clone_first (guards_of t.off i) (on_hart i.all.schedule c.args.h) x.slots c.if-index-eq0.true);
     }
 
 pub index-requires-2 : goal.index-requires-2
@@ -58,8 +58,8 @@ returns c =
     c.from.result c.index-2.result.now c.from.ensures c.index-2.ensures in
     record {
       clone =
-          for_hart c.self.inside.image.now t c.args.self.now c.self.view_is c.args.h x
-          (λ (j : Image) (y : Hart). Some (layout_model c.index-2.result.now.layout)
-          ≡ clone_of (image_on j c.args.h) (outgoing (on_hart j.all.schedule c.args.h) y.slots))
+          for_state c.self.inside.image.now t c.args.self.now c.self.view_is c.args.h x
+          (λ (j : Image) (u : State) (y : Hart). Some (layout_model c.index-2.result.now.layout)
+          ≡ clone_by (guards_of u.off j) (outgoing (on_hart j.all.schedule c.args.h) y.slots))
           k.got (clone_before i t c.args.h x k c.args.ended ended c.index-2.result.now got c.if-index-eq0.false);
     }

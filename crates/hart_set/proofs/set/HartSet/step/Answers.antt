@@ -1,6 +1,7 @@
 use Rattle.std.proofs.Common.{ℕ, Some, None, refl, subst, arith}
 use Rattle.hart_set.specs.Models.{image_of}
-use Rattle.hart_set.proofs.Called.{NextStands, found_in, within}
+use Rattle.hart_set.specs.Slots.{NextStands}
+use Rattle.hart_set.proofs.Called.{found_in, within}
 use Rattle.hart_set.proofs.set.HartSet.step.Goals as goal
 
 pub index-requires : goal.index-requires
@@ -18,7 +19,7 @@ advance-requires c =
     c.from-at.result
     c.from-at.ensures c.requires.hart c.requires.slots c.self.invariant c.index.result.now c.index.ensures
     (Some c.in-Some.slot) c.in-Some.is in
-    record { hart = found.hart; inside = found.slot; slots = found.slots }
+    record { hart = found.hart; inside = found.slot; slots = found.slots; moments = c.requires.moments }
 
 pub begin-requires : goal.begin-requires
 begin-requires c =
@@ -34,6 +35,7 @@ returns-in-Some c =
     let v = c.args.self.now in
     record {
       image = c.advance.ensures.image;
+      off = c.advance.ensures.off;
       next =
           subst (λ (n : ℕ). NextStands (image_of v) n v.1 c.advance.new.self.1) c.from-at.ensures
           (c.advance.ensures.next refl);
@@ -44,6 +46,7 @@ returns-in-None c =
     let v = c.args.self.now in
     record {
       image = c.begin.ensures.image;
+      off = c.begin.ensures.off;
       next =
           subst (λ (n : ℕ). NextStands (image_of v) n v.1 c.begin.new.self.1) c.from-at.ensures
           c.begin.ensures.next;

@@ -1,13 +1,13 @@
-use Rattle.std.proofs.Common.{◌≡◌, ℕ, ◌≤◌, ◌<◌, List, Some, length, refl, arith}
+use Rattle.std.proofs.Common.{◌≡◌, ℕ, ◌≤◌, ◌<◌, Some, None, length, refl, arith}
 use Rattle.std.specs.Prelude.{slice_get}
 use Rattle.std.proofs.lemmas.Option.{slice_get_read}
 use Rattle.sched_table.specs.Schedule.{entry_in}
 use Rattle.image_check.specs.Image.{Image, image_from}
-use Rattle.world_view.specs.Harts.{harts}
+use Rattle.world_view.specs.Harts.{Harts}
 use Rattle.world_view.specs.Used.{largest_of, count_of}
 use Rattle.hart_set.specs.declared.set.State.{State}
 use Rattle.hart_set.specs.Standing.{StandsFor}
-use Rattle.hart_set.proofs.Called.{of_image, to_image, to_value}
+use Rattle.hart_set.proofs.Called.{of_image, to_value}
 use Rattle.hart_set.proofs.Seen.{used_within}
 use Rattle.hart_set.proofs.set.HartSet.used.Goals as goal
 
@@ -34,22 +34,22 @@ pub returns-clause-largest : goal.returns-clause-largest
 returns-clause-largest c =
     let u = c.index.result.now in
     to_value c.self.inside.image.now c.self.inside.state c.args.self.now c.self.view_is
-    (λ (i : Image) (t : State). (order : List ℕ) → StandsFor i (harts i order) t
-    → u.largest ≡ largest_of c.args.entry (harts i order).world.used)
-    (λ order stands. stands.each_entry.largest c.args.entry u (got c))
+    (λ (i : Image) (t : State). (s : Harts) → StandsFor i s t
+    → u.largest ≡ largest_of c.args.entry s.world.used)
+    (λ s stands. stands.each_entry.largest c.args.entry u (got c))
 
 pub returns-clause-count : goal.returns-clause-count
 returns-clause-count c =
     let u = c.index.result.now in
     to_value c.self.inside.image.now c.self.inside.state c.args.self.now c.self.view_is
-    (λ (i : Image) (t : State). (order : List ℕ) → StandsFor i (harts i order) t
-    → u.count ≡ count_of c.args.entry (harts i order).world.used)
-    (λ order stands. stands.each_entry.count c.args.entry u (got c))
+    (λ (i : Image) (t : State). (s : Harts) → StandsFor i s t
+    → u.count ≡ count_of c.args.entry s.world.used)
+    (λ s stands. stands.each_entry.count c.args.entry u (got c))
 
 pub returns-clause-within : goal.returns-clause-within
 returns-clause-within c =
     let t = c.self.inside.state in
     let u = c.index.result.now in
-    to_image c.self.inside.image.now t c.args.self.now c.self.view_is
-    (λ (j : Image). u.largest ≤ (entry_in j.all.schedule c.args.entry).pad)
-    (used_within (image_from c.self.inside.image.now) t c.self.invariant c.args.entry u (got c))
+    to_value c.self.inside.image.now t c.args.self.now c.self.view_is
+    (λ (j : Image) (v : State). v.off ≡ None → u.largest ≤ (entry_in j.all.schedule c.args.entry).pad)
+    (λ all. used_within (image_from c.self.inside.image.now) t c.self.invariant all c.args.entry u (got c))

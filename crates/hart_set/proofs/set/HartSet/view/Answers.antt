@@ -1,4 +1,4 @@
-use Rattle.std.proofs.Common.{◌≡◌, ◌∙◌, ℕ, ◌<◌, List, Some, subst, arith}
+use Rattle.std.proofs.Common.{◌≡◌, ◌∙◌, ℕ, ◌<◌, Some, None, subst, arith}
 use Rattle.std.specs.Prelude.{slice_get}
 use Rattle.image_record.specs.Record.{Raw}
 use Rattle.image_check.specs.Image.{Image, image_from, own_of}
@@ -7,7 +7,7 @@ use Rattle.domain_open.proofs.Seen.{pool_in_memory}
 use Rattle.world_view.specs.Machine.{dom_of}
 use Rattle.domain_view.specs.Models.{view_model}
 use Rattle.world_view.specs.Relations.{IsDomain}
-use Rattle.world_view.specs.Harts.{harts, start_on, hart_of_domain, view_on, view_alone_on}
+use Rattle.world_view.specs.Harts.{Harts, harts_by, start_on, hart_of_domain, view_on, view_alone_on}
 use Rattle.hart_set.specs.declared.set.State.{State}
 use Rattle.hart_set.specs.Standing.{StandsFor, AtHart}
 use Rattle.hart_set.specs.Models.{image_of}
@@ -35,13 +35,13 @@ pub new-requires-clause-readings : goal.new-requires-clause-readings
 new-requires-clause-readings c =
     let i = image_from c.self.inside.image.now in
     let is = c.self.invariant.stands.each_domain c.args.d c.index.result.now (got c) in
-    rw is.dom.readings (kept_of (dom_of (harts i c.self.invariant.order).world c.args.d).readings)
+    rw is.dom.readings (kept_of (dom_of (harts_by c.self.inside.state.off i c.self.invariant.order).world c.args.d).readings)
 
 pub new-requires-clause-replies : goal.new-requires-clause-replies
 new-requires-clause-replies c =
     let i = image_from c.self.inside.image.now in
     let is = c.self.invariant.stands.each_domain c.args.d c.index.result.now (got c) in
-    rw is.dom.replies (kept_of (dom_of (harts i c.self.invariant.order).world c.args.d).replies)
+    rw is.dom.replies (kept_of (dom_of (harts_by c.self.inside.state.off i c.self.invariant.order).world c.args.d).replies)
 
 got_after : (c : goal.After-new)
     → slice_get c.self.inside.state.domains.items c.args.d ≡ Some c.index.result.now
@@ -56,11 +56,11 @@ got_after c =
 pub returns-clause-view : goal.returns-clause-view
 returns-clause-view c =
     subst
-    (λ (v : Raw × State). (order : List ℕ) → StandsFor (image_of v) (harts (image_of v) order) v.1
-    → view_model c.new.result ≡ view_on (image_of v) c.args.d (harts (image_of v) order))
+    (λ (v : Raw × State). (s : Harts) → StandsFor (image_of v) s v.1
+    → view_model c.new.result ≡ view_on (image_of v) c.args.d s)
     c.self.view_is
-    (λ order stands. c.new.ensures.view
-    ∙ seen (image_from c.self.inside.image.now) c.self.inside.state c.self.invariant c.args.d c.index.result.now (got_after c) order stands)
+    (λ s stands. c.new.ensures.view
+    ∙ seen (image_from c.self.inside.image.now) c.self.inside.state c.self.invariant c.args.d c.index.result.now (got_after c) s stands)
 
 pub returns-clause-alone : goal.returns-clause-alone
 returns-clause-alone c =
@@ -68,13 +68,13 @@ returns-clause-alone c =
     of_image c.self.inside.image.now c.self.inside.state c.args.self.now c.self.view_is
     (λ (i : Image). IsDomain i c.args.d) c.requires.domain in
     subst
-    (λ (v : Raw × State). AtHart v.1 (hart_of_domain (image_of v) c.args.d)
+    (λ (v : Raw × State). v.1.off ≡ None → AtHart v.1 (hart_of_domain (image_of v) c.args.d)
     (λ x. x.clock < start_on (image_of v) (hart_of_domain (image_of v) c.args.d) x.slots
     → view_model c.new.result ≡ view_alone_on (image_of v) c.args.d x.slots))
     c.self.view_is
-    (λ x at early. c.new.ensures.view
+    (λ all x at early. c.new.ensures.view
     ∙ seen_alone (image_from c.self.inside.image.now) c.self.inside.state c.self.invariant c.args.d
-    c.index.result.now (got_after c) named x at early)
+    c.index.result.now (got_after c) named all x at early)
 
 pub index-requires : goal.index-requires
 index-requires c =

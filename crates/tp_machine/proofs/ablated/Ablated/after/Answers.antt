@@ -1,20 +1,7 @@
-use Rattle.std.proofs.Common.{refl}
-use Rattle.std.proofs.lemmas.Result.{IfOk-from_err}
+use Rattle.std.proofs.Common.{◌≡◌, ◌∙◌, arith}
 use Rattle.tp_machine.proofs.ablated.Ablated.after.Goals as goal
 
-pub invariant_of-result : goal.invariant_of-result
-invariant_of-result c = c.in_ok-guarded.ensures.off
-
 pub returns : goal.returns
-returns c = record {
-  slots = c.in_ok-guarded.ensures.slots;
-  image = c.in_ok-guarded.ensures.image;
-  off = refl;
-}
-
-pub returns-in_err-guarded : goal.returns-in_err-guarded
-returns-in_err-guarded c = record {
-  slots = IfOk-from_err c.from_residual.result _ c.from_residual.ensures.0;
-  image = IfOk-from_err c.from_residual.result _ c.from_residual.ensures.0;
-  off = IfOk-from_err c.from_residual.result _ c.from_residual.ensures.0;
-}
+returns c =
+    let over : c.loop-slot.slot ≡ c.args.slots = omega arith in
+    record { slots = c.loop-slot.invariant.slots ∙ over; image = c.loop-slot.invariant.image; off = c.loop-slot.invariant.off }

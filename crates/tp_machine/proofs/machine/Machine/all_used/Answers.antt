@@ -1,4 +1,4 @@
-use Rattle.std.proofs.Common.{ℕ, List, subst}
+use Rattle.std.proofs.Common.{ℕ, List, None, subst}
 use Rattle.domain_step.specs.Usage.{IsUsed}
 use Rattle.tp_machine.specs.Models.{Ran, world_of}
 use Rattle.tp_machine.proofs.OneHart.{used_is}
@@ -8,5 +8,5 @@ pub returns-clause-each : goal.returns-clause-each
 returns-clause-each c =
     let m = c.self.inside in
     subst (λ (v : Ran). IsUsed c.all_used.result.now (world_of v).used) c.self.view_is
-    (used_is m.harts m.slots c.self.invariant (λ (us : List (ℕ × ℕ)). IsUsed c.all_used.result.now us)
+    (used_is None m.harts m.slots c.self.invariant (λ (us : List (ℕ × ℕ)). IsUsed c.all_used.result.now us)
     c.all_used.ensures.each)

@@ -1,4 +1,4 @@
-use Rattle.std.proofs.Common.{[], refl, sym, subst}
+use Rattle.std.proofs.Common.{[], None, refl, sym, subst}
 use Rattle.std.proofs.lemmas.Result.{IfOk-from_err}
 use Rattle.image_record.specs.Record.{Raw}
 use Rattle.image_check.specs.Image.{image_from}
@@ -12,8 +12,8 @@ pub invariant_of-result : goal.invariant_of-result
 invariant_of-result c =
     let v = c.in_ok-harts.harts in
     let same = sym c.in_ok-harts.ensures.image in
-    none_run v (subst (λ (x : Raw). Runnable (image_from x)) same c.runnable.ensures.runnable)
-    (subst (λ (x : Raw). IsOnOneHart (image_from x)) same c.requires.one)
+    none_run None v (subst (λ (x : Raw). Runnable (image_from x)) same c.runnable.ensures.runnable)
+    (subst (λ (x : Raw). IsOnOneHart (image_from x)) same c.requires.one) c.in_ok-harts.ensures.off
     (subst (λ (x : Raw). StandsFor (image_from x) (harts (image_from x) []) v.1) same c.in_ok-harts.ensures.stands)
 
 pub returns : goal.returns

@@ -1,4 +1,4 @@
-use Rattle.std.proofs.Common.{◌≡◌, ◌+◌, ◌<◌, subst, sym}
+use Rattle.std.proofs.Common.{◌≡◌, ◌+◌, ◌<◌, None, subst, sym}
 use Rattle.image_record.specs.Record.{Raw}
 use Rattle.sched_table.specs.Schedule.{start}
 use Rattle.world_view.specs.Machine.{clock_of, switch}
@@ -11,8 +11,8 @@ pub run_slot-requires : goal.run_slot-requires
 run_slot-requires c =
     let m = c.self.inside in
     record {
-      hart = first_there m.harts m.slots c.self.invariant;
-      slots = few m.harts m.slots c.self.invariant
+      hart = first_there None m.harts m.slots c.self.invariant;
+      slots = few None m.harts m.slots c.self.invariant
           (subst (λ (r : Ran). r.slots < 65536) (sym c.self.view_is) c.requires.slots);
     }
 
@@ -20,9 +20,8 @@ pub invariant_of-self : goal.invariant_of-self
 invariant_of-self c =
     let m = c.self.inside in
     let has = c.self.invariant in
-    let ends = c.run_slot.ensures.ends has.order has.of_harts has.stands in
-    subst (λ (x : Raw). HasRun (x, c.run_slot.new.self.1) (m.slots + 1)) (sym c.run_slot.ensures.image)
-    (one_more m.harts m.slots has c.run_slot.new.self.1 ends)
+    subst (λ (x : Raw). HasRun None (x, c.run_slot.new.self.1) (m.slots + 1)) (sym c.run_slot.ensures.image)
+    (one_more None m.harts m.slots has c.run_slot.new.self.1 c.run_slot.ensures.off c.run_slot.ensures.ends)
 
 pub returns-clause-begins : goal.returns-clause-begins
 returns-clause-begins c =

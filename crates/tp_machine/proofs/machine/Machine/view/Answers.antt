@@ -1,4 +1,4 @@
-use Rattle.std.proofs.Common.{◌≡◌, ◌<◌, ◌∙◌, length, sym, subst}
+use Rattle.std.proofs.Common.{◌≡◌, ◌<◌, ◌∙◌, length, None, sym, subst}
 use Rattle.image_check.specs.Image.{own_of}
 use Rattle.world_view.specs.View.{view_whole, view_alone}
 use Rattle.domain_view.specs.Models.{view_model}
@@ -7,10 +7,11 @@ use Rattle.tp_machine.proofs.OneHart.{seen, alone}
 use Rattle.tp_machine.proofs.machine.Machine.view.Goals as goal
 
 pub returns-clause-view : goal.returns-clause-view
+unfolding view_whole
 returns-clause-view c =
     let m = c.self.inside in
     subst (λ (v : Ran). view_model c.view.result ≡ view_whole (image_of v) c.args.d v.slots) c.self.view_is
-    (seen m.harts m.slots c.self.invariant c.args.d (view_model c.view.result) c.view.ensures.view)
+    (seen None m.harts m.slots c.self.invariant c.args.d (view_model c.view.result) c.view.ensures.view)
 
 pub returns-clause-alone : goal.returns-clause-alone
 returns-clause-alone c =

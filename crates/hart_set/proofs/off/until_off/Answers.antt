@@ -1,0 +1,7 @@
+use Rattle.std.proofs.Common.{◌≡◌, ◌∙◌, true, false}
+use Rattle.hart_set.proofs.Offs.{pads}
+use Rattle.hart_set.proofs.off.until_off.Goals as goal
+
+pub returns-then-is_on-clause-waits_not : goal.returns-then-is_on-clause-waits_not
+returns-then-is_on-clause-waits_not c i not =
+    let no : true ≡ false = pads c.args.off i (c.is_on.ensures.on c.if-is_on.true) ∙ not in absurd (cc no)
