@@ -144,7 +144,11 @@ def test_the_cases_of_the_schedule() -> None:
             16,
             "{1.entries.low} to {1.entries.high} entries, in version 2 {2.entries.low} to {2.entries.high}, ",
         ),
-        (18, "each item of `calls` is {0.CALL.low} to {0.CALL.high}, and above the one before."),
+        (
+            18,
+            "each item of `calls` is {0.CALL.low} to {0.CALL.high}, "
+            "or {0.MAIL_CALL.low} or {0.MAIL_CALL.high}, and above the one before.",
+        ),
         (19, "each entry is on one of harts {0.HART.low} to {0.HART.high}, "),
         (19, "an entry's `hart` is not {0.HART.low} to {0.HART.high} "),
         (22, "cost {0.COST.low} to {0.COST.high:,} cycles"),
