@@ -18,3 +18,7 @@ pub mod Region
 pub mod Worst
 pub mod Settling
 pub mod Clean
+pub mod TallyPrices
+pub mod TallyCases
+pub mod TallyBeside
+pub mod TallyCensus

@@ -11,7 +11,7 @@ use Rattle.set_cache.proofs.Steps.{set_at-touch_other}
 use Rattle.set_cache.proofs.Dirty.{EachDirty-touch, EachDirty-empty, EachDirty-weaker, marked_by, is_here, set_at-marked, set_at-marked_other, held_marked}
 use Rattle.l2_colour.specs.Colours.{colour_of_set}
 use Rattle.mem_system.specs.Hierarchy.{Hierarchy, colour_of_line}
-use Rattle.mem_system.specs.Cost.{Touch, Fetch, Load, Store, WalkRead, Look, Branch, Jump, EmptyTlb, Flush, Charge, Core, Caches, Passed, Read, WriteBack, Below, missed_cost, marked_where, is_pinned, below, below_if, below_by, below_all, fresh_core, fetched, accessed, guessed, branched, jumped, flushed, on_core, pass_on, touched, touched_all, and_then}
+use Rattle.mem_system.specs.Cost.{Touch, Fetch, Load, Store, WalkRead, Look, Branch, Jump, EmptyTlb, Flush, Charge, Core, Caches, Passed, Read, WriteBack, Below, missed_cost, marked_where, below, below_if, below_by, below_all, fresh_core, fetched, accessed, guessed, branched, jumped, flushed, on_core, pass_on, touched, touched_all, and_then}
 use Rattle.mem_system.specs.TouchLaws.{lines_in_l2, holds}
 use Rattle.mem_system.proofs.TouchLaws.{set_colour, line_elsewhere, Spares, touch_spares, handed_on, below_if_held, looked_l1d}
 use Rattle.mem_system.specs.Operations.{prefetch}
@@ -23,7 +23,7 @@ use Rattle.mem_system.specs.SharingLaws.{PrefetchStaysLaw, BesideLaw, OthersLaw,
 -- equal sets step alike
 module _ (shape : Shape) (sets others : Sets) (line : ℕ)
     (here : set_at shape.ways sets (line % shape.count) ≡ set_at shape.ways others (line % shape.count)) where
-  same_answer : (touch_of shape sets line false).answer ≡ (touch_of shape others line false).answer
+  pub same_answer : (touch_of shape sets line false).answer ≡ (touch_of shape others line false).answer
   same_answer = ap (λ (set : CacheSet). (step_of shape.rule set line false).answer) here
 
   -- and stay equal, there and elsewhere
@@ -126,9 +126,9 @@ may_append h own region [] us may rest = rest
 may_append h own region (t ∷ ts) us may rest = (may.0, may_append h own region ts us may.1 rest)
 
 -- what one line or more cost at the second level, beside it alone
-record BesideBelow (h : Hierarchy) (own : ℕ → Bool) (region : List ℕ) (first : Sets) (r alone : Below) : Type 0 where
-  cost : r.cost ≡ alone.cost
-  l2 : BesideL2 h own region first r.l2 alone.l2
+pub record BesideBelow (h : Hierarchy) (own : ℕ → Bool) (region : List ℕ) (first : Sets) (r alone : Below) : Type 0 where
+  pub cost : r.cost ≡ alone.cost
+  pub l2 : BesideL2 h own region first r.l2 alone.l2
 
 module _ (h : Hierarchy) (own : ℕ → Bool) (region : List ℕ) (sharing : IsSharing h own region) where
   -- ---- whose sets the lines stand in
@@ -136,7 +136,7 @@ module _ (h : Hierarchy) (own : ℕ → Bool) (region : List ℕ) (sharing : IsS
   pub shared_colour : (line : ℕ) → IsShared region line → colour_of_line h line ≡ 0
   shared_colour line (i, lt, same) = ap (colour_of_line h) same ∙ sharing.kernel i lt
 
-  own_set : (line : ℕ) → IsOwnLine h own line → IsOwnSet h own (line % h.l2.count)
+  pub own_set : (line : ℕ) → IsOwnLine h own line → IsOwnSet h own (line % h.l2.count)
   own_set line mine = ap own (set_colour h line sharing.coloured) ∙ mine
 
   elsewhere : (s line : ℕ) → colour_of_set h.line_size s ≢ colour_of_line h line → s ≢ line % h.l2.count
@@ -157,10 +157,10 @@ module _ (h : Hierarchy) (own : ℕ → Bool) (region : List ℕ) (sharing : IsS
   own_elsewhere line i lt mine same =
       shared_elsewhere (line % h.l2.count) (slice_index region i) (own_set line mine) (i, lt, refl) (sym same)
 
-  own_unpinned : (line : ℕ) → IsOwnLine h own line → (colour_of_line h line == 0) ≡ false
+  pub own_unpinned : (line : ℕ) → IsOwnLine h own line → (colour_of_line h line == 0) ≡ false
   own_unpinned line mine = ne_eqb (colour_of_line h line) 0 (own_differs (colour_of_line h line) 0 mine sharing.not_kernel)
 
-  shared_pinned : (line : ℕ) → IsShared region line → (colour_of_line h line == 0) ≡ true
+  pub shared_pinned : (line : ℕ) → IsShared region line → (colour_of_line h line == 0) ≡ true
   shared_pinned line shared = eq-eqb (colour_of_line h line) 0 (shared_colour line shared)
 
   -- ---- one line at both second levels
@@ -224,7 +224,7 @@ module _ (h : Hierarchy) (own : ℕ → Bool) (region : List ℕ) (sharing : IsS
         ∙ beside.outside s not_own not_kernel;
   }
 
-  below_beside : (first sets alone : Sets) (one : Passed) → BesideL2 h own region first sets alone
+  pub below_beside : (first sets alone : Sets) (one : Passed) → BesideL2 h own region first sets alone
       → MayPass h own region one
       → BesideBelow h own region first (below h false sets one) (below h true alone one)
   unfolding below
@@ -256,7 +256,7 @@ module _ (h : Hierarchy) (own : ℕ → Bool) (region : List ℕ) (sharing : IsS
 
   -- ---- touches
 
-  touch_beside : (first : Sets) (c alone : Caches) (touch : Touch) → BesideCaches h own region first c alone
+  pub touch_beside : (first : Sets) (c alone : Caches) (touch : Touch) → BesideCaches h own region first c alone
       → MayTouch h own region touch
       → BesideTouched h own region first (touched h false c touch) (touched h true alone touch)
   unfolding touched pass_on

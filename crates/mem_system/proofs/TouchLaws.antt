@@ -219,7 +219,7 @@ module _ (h : Hierarchy) where
     ]
 
     -- write-backs cost nothing there
-    backs_cost : (lines : List ℕ) (sets : Sets) → cost_of sets (map WriteBack lines) ≡ 0
+    pub backs_cost : (lines : List ℕ) (sets : Sets) → cost_of sets (map WriteBack lines) ≡ 0
     unfolding below_all below
     backs_cost [] sets = refl
     backs_cost (line ∷ lines) sets =

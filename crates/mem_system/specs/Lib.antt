@@ -1,5 +1,6 @@
 pub mod Hierarchy
 pub mod Cost
+pub mod Tally
 pub mod Contents
 pub mod Geometry
 pub mod Translation
@@ -8,3 +9,5 @@ pub mod Operations
 pub mod Sharing
 pub mod Worst
 pub mod SharingLaws
+pub mod TallyLaws
+pub mod Example
