@@ -1,23 +1,25 @@
-"""How long a sweep takes beside its runs: that its workers end together, and what it adds to the runs.
+"""What a sweep takes of the processors beside its runs, and that its workers end together.
 
-What is held is that a thousand runs on so many processors take at most 1.3 times what the program itself takes
-for them, shared out evenly. Seconds on the wall say little of it where others work on the machine. So it is the
-processors' seconds that are counted while a sweep goes on, from its start to its end: those that it takes, and
-those in which a processor idles, which it could have taken. Where nobody else works that is the wall's time on each
-processor; where others do, what they take is left out. How evenly the runs are given out is held by itself, too, by
-a clock that is made up."""
+What is wanted is that a thousand runs on so many processors take at most 1.3 times what the program itself takes for
+them, shared out evenly. Seconds on the wall tell little of it where others work on the machine, whose own speed drifts,
+too. So two things are held in their place, each by itself. What a sweep takes of the processors, from its start to its
+end, is at most 1.3 times what the program takes of them in these very runs, of which there are as many as are wanted:
+since each of them has a piece of the tools' work before and behind it, what makes the machine slow makes both slow. And
+how evenly the runs are given out is held by a clock that is made up. Left out is what a processor idles meanwhile: while
+one process starts, and at a run's begin and end. What comes of it all by the clock on the wall, `bench/sweep_pace`
+measures, on a machine that does nothing else."""
 
 from __future__ import annotations
 
 import os
-import resource
 import subprocess
 import sys
+import time
 from collections.abc import Callable
+from dataclasses import dataclass
 from pathlib import Path
 
 import pytest
-from conftest import REPOSITORY, SDK
 
 from tp_sdk.build import build_text
 from tp_sdk.description import read_description
@@ -26,14 +28,18 @@ from tp_sdk.sweeping.driving import drive
 from tp_sdk.sweeping.plan import Run
 from tp_sdk.sweeping.running import Chunk, Ran
 
-# Of the program's own time: where the library answers in its place, and where each run is a process, to start which
-# takes the tools some time, too, and the more the busier the machine is.
-MOST, MOST_BY_PROCESSES = 1.3, 2.0
+resource = pytest.importorskip("resource", reason="what processes take is not told here")
+
+# Of the program's own time; and where others work beside the sweep: between two runs a processor's caches lose the tools
+# then, which do a little of many things, and are slowed down more by it than the program.
+MOST, MOST_AMONG_OTHERS = 1.3, 1.4
+OTHERS = 0.1  # of the processors' time
 SLOW = 0.1  # seconds
-SLOTS, MACHINES, ROUNDS = 24, 20, 5
+SLOTS, MACHINES, KEYS, ROUNDS = 24, 20, 8, 5
 GUARDS_OFF = ("--off", "none,flush,prefetch,pad,colour,clone,irq")
-RUNS = MACHINES * 8 * 7
+RUNS = MACHINES * KEYS * 7
 TICK = os.sysconf("SC_CLK_TCK")
+NOTED = Path(__file__).parent / "noted_sweep.py"
 
 
 class Workers:
@@ -79,54 +85,73 @@ def test_workers_end_together(count: int, seconds: Callable[[int], float]) -> No
     assert max(workers.free) <= 1.05 * sum(each) / count + 5 * max(each)
 
 
-def own_seconds(program: Program, image: str, runs: int) -> float:
-    """The processor's seconds that the program takes for some runs of an image."""
-    before = os.times()
-    for _ in range(runs):
-        assert program.run(["run", "--slots", str(SLOTS)], image).code == 0
-    after = os.times()
-    return after.children_user + after.children_system - before.children_user - before.children_system
+@dataclass(frozen=True)
+class Swept:
+    """The seconds of the processors that a sweep took from its start to its end, and those of them that the program
+    took itself for its runs; how many these were; and what others took meanwhile, as a part of all."""
+
+    taken: float
+    own: float
+    runs: int
+    others: float
+
+    def most(self) -> float:
+        """How many times the program's own time may be taken."""
+        return MOST if self.others < OTHERS else MOST_AMONG_OTHERS
+
+    def __str__(self) -> str:
+        ratio = f"{self.taken / self.own:.3f}, where {self.most()} is the most"
+        return (
+            f"{self.taken:.2f} s of a sweep, {self.own:.2f} s of the program in its {self.runs} runs: {ratio}, "
+            f"and others took {self.others:.0%}"
+        )
 
 
-def processors_seconds() -> tuple[float, float]:
-    """Since the machine began: the seconds in which its processors, of those that are for this process, were idle,
-    and those that the commands which this process has started took."""
-    ours = {f"cpu{it}" for it in os.sched_getaffinity(0)}
-    lines = [it.split() for it in Path("/proc/stat").read_text().splitlines()]
-    idle = sum(int(it[4]) + int(it[5]) for it in lines if it[0] in ours)
-    taken = resource.getrusage(resource.RUSAGE_CHILDREN)
-    return idle / TICK, taken.ru_utime + taken.ru_stime
+def seconds_of_processes() -> float:
+    """What this process and those that it has waited for took of the processors."""
+    taken = [resource.getrusage(it) for it in (resource.RUSAGE_SELF, resource.RUSAGE_CHILDREN)]
+    return sum(it.ru_utime + it.ru_stime for it in taken)
 
 
-def seconds_of_sweep(description: Path, room: Path, number: int) -> float:
-    """What a sweep takes of the processors, from its start to its end, and what it leaves idle."""
-    vary = ("--vary", f"machine.costs.mem=40..{39 + MACHINES}", "--vary", "key=victim.key:0..7", *GUARDS_OFF)
-    words = (SDK / "tp-sweep", description, *vary, "--slots", str(SLOTS), "-o", room / f"{number}.csv")
-    # (the tools' own modules are compiled once, as where they can be written beside their sources)
-    compiled = {"PYTHONDONTWRITEBYTECODE": "", "PYTHONPYCACHEPREFIX": str(room / "compiled")}
-    idle, taken = processors_seconds()
+def seconds_of_all() -> float:
+    """What all processes took of them since the machine began, and its host; 0 where it is not told."""
+    stat = Path("/proc/stat")
+    if not stat.exists():
+        return 0.0
+    user, nice, system, _, _, *rest = map(int, stat.read_text().split("\n", 1)[0].split()[1:9])
+    return (user + nice + system + sum(rest)) / TICK
+
+
+def sweep_once(description: Path, room: Path, machines: int = MACHINES) -> Swept:
+    """A sweep of so many machines by the whole command."""
+    notes = room / "notes"
+    notes.mkdir(parents=True)
+    vary = ("--vary", f"machine.costs.mem=40..{39 + machines}", "--vary", f"key=victim.key:0..{KEYS - 1}")
+    words = (NOTED, notes, description, *vary, *GUARDS_OFF, "--slots", str(SLOTS), "-o", room / "out.csv")
+    # (the tools' own modules are compiled by the first sweep, as where they can be written beside their sources)
+    compiled = {"PYTHONDONTWRITEBYTECODE": "", "PYTHONPYCACHEPREFIX": str(room.parent / "compiled")}
+    before, of_all, clock = seconds_of_processes(), seconds_of_all(), time.monotonic()
     subprocess.run([sys.executable, *words], env=os.environ | compiled, check=True)
-    idle_after, taken_after = processors_seconds()
-    return idle_after - idle + taken_after - taken
+    taken, there = seconds_of_processes() - before, (time.monotonic() - clock) * (os.cpu_count() or 1)
+    told = [it.read_text().split() for it in notes.iterdir()]
+    own, runs = sum(float(it) for _, it in told), sum(int(it) for it, _ in told)
+    return Swept(taken, own, runs, (seconds_of_all() - of_all - taken) / there)
 
 
-@pytest.mark.skipif(not Path("/proc/stat").exists(), reason="how idle processors are is not told here")
 def test_a_sweep_takes_little_beside_its_runs(built: Path, program: Program, tmp_path: Path) -> None:
-    """A thousand runs of the victim's image, by the whole command. (The least of some rounds: others on the machine
-    make each of these times only more.)"""
+    """A thousand runs of the victim's image, in one of some rounds: what disturbs them makes none cheaper."""
     text = build_text(read_description(built / "victim.toml"), program)
-    itself = program if program.shared is None else Program(REPOSITORY / "crates" / "tp" / "out" / "tp")
-    if not itself.path.is_file():
-        pytest.skip("the program is not there, beside which the library is held")
-    if own_seconds(itself, text, 1) > SLOW:
+    before = seconds_of_processes()
+    assert program.run(["run", "--slots", str(SLOTS)], text).code == 0
+    if seconds_of_processes() - before > SLOW:
         pytest.skip("a run takes long: the program is one that tests itself")
-    seconds_of_sweep(built / "victim.toml", tmp_path, 0)
-    part = RUNS // 8
-    rounds = [
-        (own_seconds(itself, text, part) * RUNS / part, seconds_of_sweep(built / "victim.toml", tmp_path, it))
-        for it in range(1, 1 + ROUNDS)
-    ]
-    own, swept = (min(it) for it in zip(*rounds))
-    told = f"{swept:.2f} s of a sweep, {own:.2f} s of its {RUNS} runs: {swept / own:.2f}"
-    print(told)
-    assert swept <= (MOST if program.shared else MOST_BY_PROCESSES) * own, told
+    sweep_once(built / "victim.toml", tmp_path / "first", 1)
+    rounds = []
+    for number in range(ROUNDS):
+        swept = sweep_once(built / "victim.toml", tmp_path / str(number))
+        print(swept)
+        assert swept.runs == RUNS
+        if swept.taken <= swept.most() * swept.own:
+            return
+        rounds.append(f"{swept}")
+    raise AssertionError("; ".join(rounds))

@@ -9,7 +9,7 @@ from functools import cached_property
 from pathlib import Path
 from typing import Any
 
-from tp_sdk.build import bounds_in, image_domain, image_entry, load, numbers_of
+from tp_sdk.build import bounds_in, image_boxes, image_domain, image_entry, load, numbers_of
 from tp_sdk.description import Description, DomainDescription, EntryDescription
 from tp_sdk.elf import Loaded, Segment
 from tp_sdk.faults import Fault
@@ -117,7 +117,8 @@ class Images:
 
         def frame(pads: list[int]) -> _Frame:
             entries = [image_entry(it, self._numbers, pad) for it, pad in zip(schedule, pads)]
-            after = "\n".join(it.to_toml() for it in entries)
+            boxes = image_boxes(self._description, self._numbers)
+            after = "\n".join([*(it.to_toml() for it in entries), *(it.to_toml() for it in boxes)])
             return _Frame(before, after, [Entry(it.domain, it.length, it.pad, it.hart) for it in entries])
 
         made = frame([0] * len(schedule))

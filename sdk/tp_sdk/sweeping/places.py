@@ -217,7 +217,7 @@ def _machine_keys() -> Iterator[str]:
     """Each key that a machine may have, as words name it."""
     for row in keys.KEY_ROWS:
         path = (*row.place.path, row.key)
-        if row.place.is_one and path[0] not in ("version", "domain", "schedule"):
+        if row.place.is_one and path[0] not in keys.FRAME:
             yield ".".join((MACHINE, *path))
             if isinstance(row.kind, keys.Table):
                 yield from (".".join((MACHINE, *path, name)) for name, _ in row.kind.fields)

@@ -10,7 +10,7 @@ from math import prod
 
 from tp_sdk.description import Description
 from tp_sdk.elf import Loaded
-from tp_sdk.sweeping.places import Variant, Where
+from tp_sdk.sweeping.places import AtSymbol, DomainKey, Variant, Where
 from tp_sdk.sweeping.values import Value, Values, written
 
 MOST_RUNS = 1_000_000  # with no word of the user's
@@ -114,6 +114,11 @@ class Plan:
     def secret(self) -> str:
         """The names of what is the secret."""
         return "+".join(it.name for it in self.secrets.varied)
+
+    @cached_property
+    def is_secret_of_domains(self) -> bool:
+        """The secret is in what domains have, and neither in the machine nor in the schedule, nor is it a guard."""
+        return all(isinstance(it.where, (AtSymbol, DomainKey)) for it in self.secrets.varied)
 
     def at(self, point: int) -> Variant:
         """What the description says at a point, with no secret put."""

@@ -78,9 +78,10 @@ class Rows:
     def add(self, ran: Ran) -> list[SweepRow] | None:
         """Takes a run, and gives the rows of its point where that was the last one."""
         observers = self._plan.observers
-        point = self._points.setdefault(
-            ran.run.point, _OfPoint([Counter() for _ in observers], most=[None] * len(observers))
-        )
+        point = self._points.get(ran.run.point)
+        if point is None:
+            point = _OfPoint([Counter() for _ in observers], most=[None] * len(observers))
+            self._points[ran.run.point] = point
         point.done += 1
         if ran.refused and (point.refused is None or ran.run.secret < point.refused.run.secret):
             point.refused = ran
@@ -152,7 +153,8 @@ def _counted(sections: Counter[bytes], seen: Seen, point: _OfPoint, slots: int) 
 
 
 def _most(one: Seen | None, other: Seen) -> Seen:
-    if one is None:
+    # (runs of a point that came to the same, and from a worker at once, have the same one)
+    if one is None or one is other:
         return other
     return Seen(
         b"",

@@ -5,11 +5,14 @@ from __future__ import annotations
 import hashlib
 from collections.abc import Sequence
 from dataclasses import dataclass
+from functools import lru_cache
+from operator import is_
 from time import perf_counter
 
 from tp_sdk.build import explanation_of, is_refusal
+from tp_sdk.description import DomainDescription
 from tp_sdk.faults import Fault, Missing
-from tp_sdk.outline import outline_of, switch_of
+from tp_sdk.outline import BROKEN, no_part, parts_of, switch_of
 from tp_sdk.program import Ended, Program
 from tp_sdk.running import words_for
 from tp_sdk.schedule import Entry, Time, hart_for, time_of
@@ -17,6 +20,7 @@ from tp_sdk.sweeping.images import Built, Images, Refused
 from tp_sdk.sweeping.places import Variant
 from tp_sdk.sweeping.plan import Plan, Run
 
+_KEPT = 256  # parts of reports: where guards are on, those of many runs are the same
 _USAGE, _TOO_LONG = 2, 6  # exit codes of the program: no such words for the image; the image is too long
 
 
@@ -58,7 +62,10 @@ class Runner:
         self._plan, self._program = plan, program
         self._images = Images(plan.description, plan.programs, program)
         self._last_point: tuple[int, Variant] | None = None
-        self._last_times: tuple[list[Entry], dict[int, Time]] = ([], {})
+        self._last_times: tuple[list[Entry], list[Time]] = ([], [])
+        self._secrets = _Secrets(plan)
+        names = [it.name for it in plan.description.domains]
+        self._observers = [names.index(it) for it in plan.observers]
 
     def chunk(self, runs: Sequence[Run]) -> Chunk:
         """Does some runs."""
@@ -86,31 +93,27 @@ class Runner:
         """What a run is of: its point is most often that of the run before."""
         if self._last_point is None or self._last_point[0] != run.point:
             self._last_point = run.point, self._plan.at(run.point)
-        return self._plan.with_secret(self._last_point[1], run.secret)
+        return self._secrets.put(self._last_point[1], run.secret)
 
-    def _time(self, entries: list[Entry], domain: int) -> Time:
-        """How long the slots of a domain's hart take: the schedule is most often that of the run before."""
+    def _times(self, entries: list[Entry]) -> list[Time]:
+        """How long the slots of each observer's hart take: the schedule is most often that of the run before."""
         if self._last_times[0] is not entries:
-            self._last_times = entries, {}
-        times = self._last_times[1]
-        if domain not in times:
-            times[domain] = time_of(entries, self._plan.slots, hart_for(entries, domain))
-        return times[domain]
+            harts = [hart_for(entries, it) for it in self._observers]
+            self._last_times = entries, [time_of(entries, self._plan.slots, hart) for hart in harts]
+        return self._last_times[1]
 
     def _summary(self, run: Run, built: Built, ended: Ended) -> Ran:
         file = str(self._plan.description.file)
-        outline = outline_of(ended.text, file)
-        seen = tuple(self._seen(outline.lines_of(observer), built) for observer in self._plan.observers)
-        switches = [switch_of(line, at, file) for at, line in outline.switches]
-        return Ran(run, seen, max(it.pad for it in switches), max(it.used for it in switches))
+        parts = parts_of(ended.text, file)
+        try:
+            sections = [parts.sections[it] for it in self._plan.observers]
+            seen = tuple(map(_seen, sections, self._times(built.entries)))
+            return Ran(run, seen, *_pads(parts.switches))
+        except (Fault, *BROKEN):
+            from tp_sdk.report import parse_report
 
-    def _seen(self, lines: list[str], built: Built) -> Seen:
-        """What an observer came to, by the lines of its section. (A sweep reads no more of them.)"""
-        values = dict(line.split(" ", 1) for line in lines[:3])
-        number = int(values["domain"].split()[0])
-        time = self._time(built.entries, number)
-        status, retired = values["status"].split()[0], int(values["retired"])
-        return Seen(_in_short(lines[1:]), status, retired, time.cycles, time.in_slots)
+            parse_report(ended.text, file)  # (it tells of the line)
+            raise no_part(file, 1) from None
 
     def _why(self, refused: Refused, variant: Variant) -> str:
         ended = refused.ended
@@ -125,5 +128,44 @@ class Runner:
         )
 
 
-def _in_short(lines: list[str]) -> bytes:
-    return hashlib.blake2b("\n".join(lines).encode(), digest_size=16).digest()
+class _Secrets:
+    """Puts secrets into points. Most often they are in what domains have, and points leave that as it is: then the
+    domains with a secret are made once, and not for each point anew."""
+
+    def __init__(self, plan: Plan) -> None:
+        self._plan = plan
+        self._before: list[DomainDescription] = []
+        self._after: dict[int, list[DomainDescription]] = {}
+
+    def put(self, point: Variant, secret: int) -> Variant:
+        """What a point says with this value of the secret."""
+        if not self._plan.is_secret_of_domains:
+            return self._plan.with_secret(point, secret)
+        if len(self._before) != len(point.domains) or not all(map(is_, self._before, point.domains)):
+            self._before, self._after = point.domains, {}
+        domains = self._after.get(secret)
+        if domains is None:
+            domains = self._plan.with_secret(point, secret).domains
+            if len(self._after) < _KEPT:
+                self._after[secret] = domains
+        return Variant(point.machine, domains, point.schedule, point.off, point.harts, point.noise)
+
+
+@lru_cache(_KEPT)
+def _seen(section: str, time: Time) -> Seen:
+    """What an observer came to, by its section. (A sweep reads no more of it.)"""
+    status, retired = (line.split() for line in section.split("\n", 2)[:2])
+    if (status[0], retired[0]) != ("status", "retired"):
+        raise ValueError("no section")
+    return Seen(_in_short(section), status[1], int(retired[1]), time.cycles, time.in_slots)
+
+
+@lru_cache(_KEPT)
+def _pads(switches: str) -> tuple[int, int]:
+    """The greatest pad of the lines of switches, and the most that one used."""
+    read = [switch_of(line, 0, "") for line in switches.splitlines()]
+    return max(it.pad for it in read), max(it.used for it in read)
+
+
+def _in_short(section: str) -> bytes:
+    return hashlib.blake2b(section.encode(), digest_size=16).digest()

@@ -88,6 +88,8 @@ def written(value: Value) -> str:
     """A value in a column: a number in decimal, a word as it is, what else there is as JSON."""
     if value is None:
         return NONE
+    if type(value) is int:  # (most are, and no truths)
+        return str(value)
     return value if isinstance(value, str) else json.dumps(value)
 
 
