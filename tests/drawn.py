@@ -26,6 +26,8 @@ COUNTERS = (0xC00, 0xC01, 0xC02, 0xC80, 0xC82)
 COLOURS = 8
 FRAMES_OF_A_COLOUR = 16
 SLOTS = 6
+MAIL_CALLS = (19, 20)
+MOST_BOXES = 4
 
 
 @dataclass
@@ -35,6 +37,10 @@ class Drawn:
     image: Image
     keys: set[str]
     harts: int
+
+    def told(self) -> set[int]:
+        """The domains to which a box leads."""
+        return {it["to"] for it in self.image.get("mail", [])}
 
 
 # ---- a program
@@ -78,9 +84,12 @@ def loop(draw: Random) -> list[int]:
 
 def kernel_call(draw: Random) -> list[int]:
     """A call, mostly one that goes on."""
-    which = draw.choices(range(17), [0.1, 3, 2, 1, 3, 1, 2, 1, 1, 1, 0.3, 1, 0.5, 1, 0.1, 1, 0.3])[0]
+    weights = [0.1, 3, 2, 1, 3, 1, 2, 1, 1, 1, 0.3, 1, 0.5, 1, 0.1, 1, 0.3, 2, 2]
+    which = draw.choices([*range(17), *MAIL_CALLS], weights)[0]
     slot = draw.randrange(8)
     match which:
+        case 19 | 20:
+            return call(which, draw.randrange(MOST_BOXES + 1), draw.randrange(256))
         case 3:
             return call(3, slot, images.REGION)
         case 4:
@@ -171,7 +180,7 @@ def domains(draw: Random, image: Image, keys: set[str]) -> list[dict[str, Any]]:
         each["caps"] = [f"page {images.DATA >> 12}", f"irq {d}", "none", f"page {(images.DATA >> 12) + 1}"]
         each["moments"] = [[cycle, d] for cycle in sorted(draw.sample(range(1, 90000), 12))]
         if listed and draw.random() < 0.7:
-            each["calls"] = sorted(draw.sample(range(15), draw.randint(0, 14)))
+            each["calls"] = sorted(draw.sample([*range(15), *MAIL_CALLS], draw.randint(0, 16)))
         made.append(each)
     return made
 
@@ -193,6 +202,11 @@ def drawn(seed: int) -> Drawn:
             entry["hart"] = entry["domain"] % harts
     if draw.random() < 0.6:
         keys.add("different pads")
+    if draw.random() < 0.5:
+        keys.add("mail")
+        pairs = [(one, other) for one in range(many) for other in range(many) if one != other]
+        boxes = draw.sample(pairs, min(len(pairs), draw.randint(1, MOST_BOXES)))
+        image["mail"] = [{"from": one, "to": other} for one, other in boxes]
     return Drawn(image, keys, harts)
 
 

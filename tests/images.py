@@ -151,6 +151,12 @@ def sections(report: str) -> str:
     return report.partition("switch 0 ")[0]
 
 
+def sections_of(report: str) -> dict[int, str]:
+    """The section of each domain."""
+    texts = ("\n" + sections(report)).split("\ndomain ")[1:]
+    return {number: f"domain {text.rstrip()}\n" for number, text in enumerate(texts)}
+
+
 def within_pads(report: str) -> bool:
     """Whether each switch line says no more than its pad."""
     lines = [line.split() for line in report.splitlines() if line.startswith("switch ")]

@@ -13,6 +13,7 @@
 #define TP_PAGE_BYTES 4096u
 #define TP_TABLE_BYTES 0x400000u /* what one page table maps */
 #define TP_OUTPUT_BYTES 4096     /* what a domain can print */
+#define TP_BOX_WORDS 16          /* what a slot can put into a box */
 #define TP_READINGS 256          /* of the values that it reads from counters the report keeps the first */
 
 enum tp_error {
@@ -30,6 +31,9 @@ enum tp_error {
     TP_OUTPUT_FULL = 11,
     TP_IN_USE = 12,
     TP_NO_THREAD = 13,
+    TP_NO_BOX = 14,
+    TP_BOX_FULL = 15,
+    TP_NO_MAIL = 16,
 };
 
 enum tp_call {
@@ -48,6 +52,8 @@ enum tp_call {
     TP_CALL_SPAWN = 12,
     TP_CALL_YIELD = 13,
     TP_CALL_END_THREAD = 14,
+    TP_CALL_SEND = 19,
+    TP_CALL_RECV = 20,
 };
 
 /* Rights, of which the sums 1, 3, 4, 5 and 7 are good. */
@@ -169,6 +175,23 @@ static inline void __attribute__((noreturn)) tp_end_thread(void)
 {
     tp_call(TP_CALL_END_THREAD, 0, 0, 0);
     __builtin_unreachable();
+}
+
+/* Puts a word into a box of the image's `mail`, by its place there from 0. It goes off as
+   the slot ends. TP_NO_BOX where the box is not from this domain; TP_BOX_FULL after
+   TP_BOX_WORDS words in a slot, whether or not the receiver has taken earlier ones. */
+static inline enum tp_error tp_send(uint32_t box, uint32_t word)
+{
+    return tp_call(TP_CALL_SEND, box, word, 0).error;
+}
+
+/* Takes the first word that is left in a box; the value is the word. TP_NO_BOX where the box
+   is not to this domain; TP_NO_MAIL where none is left. Words come in as a slot begins, in
+   the place of those that were not taken. (In an image without boxes both calls are
+   TP_BAD_CALL.) */
+static inline struct tp_reply tp_recv(uint32_t box)
+{
+    return tp_call(TP_CALL_RECV, box, 0, 0);
 }
 
 /* ---- beyond the calls */

@@ -12,7 +12,7 @@ from conftest import REPOSITORY, run_tool
 from test_tables import section_of, table_with
 
 from tp_sdk.bounds import PARTS, bound_on_a_switch, bounds_of, lines_written, parse_bound, parts_of
-from tp_sdk.calls import CALLS, EVERY_CALL, NUMBERS
+from tp_sdk.calls import CALLS, EVERY_CALL, NUMBERS, Call
 from tp_sdk.explain_bound import WORDS
 from tp_sdk.program import Program
 from tp_sdk.refusals import Image
@@ -113,9 +113,8 @@ def test_the_bounds_are_the_programs(program: Program) -> None:
 
 
 @pytest.mark.parametrize("call", CALLS, ids=lambda call: call.name)
-def test_the_bound_of_each_call_is_the_programs(program: Program, call: object) -> None:
-    assert call in CALLS
-    text = SECOND.replace(COLOURS, f"{COLOURS}\ncalls = [{CALLS.index(call)}]")  # type: ignore[arg-type]
+def test_the_bound_of_each_call_is_the_programs(program: Program, call: Call) -> None:
+    text = SECOND.replace(COLOURS, f"{COLOURS}\ncalls = [{call.number}]")
     bound = parse_bound(program.run(["bound"], text).text)
     assert bound is not None
     assert list(bound.entries) == [(it.operation, it.bound) for it in bounds_of(image(text))]

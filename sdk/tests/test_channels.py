@@ -79,7 +79,7 @@ def test_the_images_are_what_the_tools_make(program: Program, compiler: str, tmp
     ignore = shutil.ignore_patterns("out", "secret-*", "__pycache__")
     shutil.copytree(SDK, tmp_path / "sdk", ignore=ignore)
     shutil.copytree(CHANNELS, made, ignore=ignore)
-    channels = [*NAMES, "back", "harts"]
+    channels = [*NAMES, "back", "harts", "mail"]
     images = [f"{channel}/secret-{number}.toml" for channel in channels for number in (0, 5)]
     subprocess.run(["make", "-C", made, f"TP={program.path}", *images], check=True, capture_output=True)
     for image in images:
@@ -115,6 +115,20 @@ def test_a_sender_on_another_hart_tells_nothing_in_any_order(program: Program) -
     assert all(it == of_senders[0] for it in of_senders)
 
 
+def test_the_sender_of_a_box_does_not_see_what_is_taken(program: Program) -> None:
+    images = [(CHANNELS / "mail" / f"{name}.toml").read_text() for name in SECRETS]
+    reports = [parse_report(program.run(["run", "--slots", "10"], it).text, "mail") for it in images]
+    assert len({it.section("spy").text for it in reports}) == 1
+    spy = reports[0].section("spy")
+    # (in each of five slots sixteen words, and one that is too many)
+    assert [reply.code for reply in spy.replies] == ([0] * 16 + [15]) * 5
+    taken = [[reply.value for reply in it.section("sender").replies if not reply.code] for it in reports]
+    # what is left when the next words come in is lost
+    for secret, words in enumerate(taken):
+        assert words == [17 * slot + place for slot in range(4) for place in range(secret)]
+    assert f"{entropy([it.section('sender').text for it in reports]):.2f}" == "3.00"
+
+
 def test_its_images_are_those_of_the_lines_on_two_harts() -> None:
     for name in SECRETS:
         plain = (LINES / f"{name}.toml").read_text()
@@ -125,7 +139,7 @@ def test_its_images_are_those_of_the_lines_on_two_harts() -> None:
 
 
 def test_the_table_of_channels() -> None:
-    *rows, on_harts = table_with(
+    *rows, on_harts, by_mail = table_with(
         "guard off", "channel", "a secret is", "bits, off", "bits, on", text=CHANNELS_MD
     )
     assert [guard for guard, *_ in rows] == [f"`{guard}`" for guard in GUARDS]
@@ -135,6 +149,9 @@ def test_the_table_of_channels() -> None:
     assert [name for name, _ in reports_in(HARTS / "run")] == SECRETS
     bits_on = f"{bits_of(HARTS / 'run'):.2f}"
     assert on_harts == ["none", "`harts`", "which line it loads at the same time", "", bits_on]
+    assert [name for name, _ in reports_in(CHANNELS / "mail" / "run")] == SECRETS
+    bits_on = f"{bits_of(CHANNELS / 'mail' / 'run'):.2f}"
+    assert by_mail == ["none", "`mail`", "how many of the spy's words it takes", "", bits_on]
 
 
 def test_the_table_of_all_channels_and_guards(program: Program) -> None:

@@ -60,6 +60,7 @@ DOMAINS = [
 # (with the two domains fifteen are too many for version 1, as sixty-three entries are)
 FIFTEEN, THIRTY_ONE = "".join(DOMAINS[:15]), "".join(DOMAINS)
 ENTRY = "[[schedule]]\ndomain = 0\nlength = 1000\npad = 6150\n"
+BOX = "[[mail]]\nfrom = 0\nto = 1\n"
 # Of 64 colours, with one frame each: the shared region's second frame would be frame 64.
 NARROW = (
     IMAGE.replace("sets = 256", "sets = 4096")
@@ -97,6 +98,7 @@ MADE_ROWS = [
         "`[[1, 3], [1, 3], [1, 3], [1, 3], [1, ...`",
     ),
     Row(1, IMAGE, IMAGE + ENTRY * 63, "K16 at 0 found 65 wanted 1", "`schedule`", ""),
+    Row(1, IMAGE, IMAGE + BOX * 65, "K20 at 0 found 65 wanted 1", "`mail`", ""),
 ]
 
 
@@ -215,7 +217,7 @@ def test_a_line_of_another_image_is_a_fault() -> None:
             explain(IMAGE.encode(), "mine.toml", Refusal.parse(f"refused {line}"))
     for line in (
         "accepted!",
-        "refused K2 at 32 found 0 wanted 0",
+        "refused K2 at 35 found 0 wanted 0",
         "refused K99 at 0 found 0 wanted 0",
         f"refused K9 at {'9' * 5000} found 0 wanted 0",
     ):
@@ -273,6 +275,20 @@ CLASHES = [
     ),
     ("K18 at 1 found 2 wanted 14", "[2]", "[2]\ncalls = [0, 4, 1]", "`calls[1]` of domain 1 (blue)", "`4`"),
     ("K19 at 1 found 0 wanted 3", "domain = 1", f"{ON_ONE}\ndomain = 1", "`domain` of entry 0 (red)", "`0`"),
+    (
+        "K20 at 0 found 1 wanted 3",
+        "frames = 64",
+        "mail = [{ from = 1, to = 1 }]\nframes = 64",
+        "`from` of box 0 (blue to blue)",
+        "`1`",
+    ),
+    (
+        "K20 at 1 found 0 wanted 4",
+        "frames = 64",
+        "mail = [{ from = 0, to = 1 }, { to = 1, from = 0 }]\nframes = 64",
+        "`to` of box 0 (red to blue)",
+        "`1`",
+    ),
     (
         "K19 at 2 found 1 wanted 3",
         "domain = 1",

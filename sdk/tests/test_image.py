@@ -196,7 +196,7 @@ def test_calls_by_name(folder: Folder, calls: str, numbers: list[int] | None) ->
 
 def test_every_call_has_a_name(folder: Folder) -> None:
     folder.write(second(str(list(NUMBERS))))
-    assert folder.image()["domain"][0]["calls"] == list(range(15))
+    assert folder.image()["domain"][0]["calls"] == [*range(15), 19, 20]
 
 
 @pytest.mark.parametrize(

@@ -78,6 +78,25 @@ def test_a_newer_program_comes_first(built: tuple[Path, Path], tmp_path: Path) -
     assert library.newest(tmp_path, program) is None
 
 
+def test_an_installed_library_is_found_by_its_version(tmp_path: Path) -> None:
+    """As `make install` and `make -C lib install` lay them out, in any order, with one PREFIX."""
+    installed, shared = tmp_path / "kizhombai", tmp_path / library.BESIDE
+    program = installed / "tp"
+    installed.mkdir()
+    (installed / "VERSION").write_text("1.2.3\n")
+    assert library.newest(installed, program) is None
+    for version, is_found in (("1.2.4", False), ("1.2.3", True)):
+        (tmp_path / f"{library.BESIDE}.{version}").touch()
+        shared.unlink(missing_ok=True)
+        shared.symlink_to(f"{library.BESIDE}.{version}")
+        assert library.newest(installed, program) == (shared if is_found else None)
+    program.touch()
+    assert library.newest(installed, program) == shared
+    # (beside a repository with its sources stands another's)
+    (installed / "crates.txt").touch()
+    assert library.newest(installed, program) is None
+
+
 def test_the_variable_decides(built: tuple[Path, Path], monkeypatch: pytest.MonkeyPatch) -> None:
     program, shared = built
     program.chmod(0o755)

@@ -56,7 +56,7 @@ def drawn(folder: Path, *words: str | Path) -> str:
 
 def test_every_picture_of_the_documents_is_readable() -> None:
     pictures = sorted(PICTURES.glob("*.svg"))
-    assert len(pictures) == 10
+    assert len(pictures) == 11
     for picture in pictures:
         assert is_readable(picture.read_text()), picture.name
 

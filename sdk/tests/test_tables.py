@@ -106,7 +106,7 @@ def test_the_parts_of_the_machine() -> None:
     assert f"Parts 1 to 6 are powers of two: {', '.join(sizes)}." in section_of(3)
 
 
-@pytest.mark.parametrize("rule", (3, 11, 12, 13, 15, 19, 22))
+@pytest.mark.parametrize("rule", (3, 11, 12, 13, 15, 19, 20, 22))
 def test_the_cases_of_a_rule(rule: int) -> None:
     told = [
         (int(row[0]), row[1])
@@ -151,6 +151,8 @@ def test_the_cases_of_the_schedule() -> None:
         ),
         (19, "each entry is on one of harts {0.HART.low} to {0.HART.high}, "),
         (19, "an entry's `hart` is not {0.HART.low} to {0.HART.high} "),
+        (20, "there are {0.BOXES_MOST} boxes or fewer"),
+        (20, "there are more than {0.BOXES_MOST} "),
         (22, "cost {0.COST.low} to {0.COST.high:,} cycles"),
         (22, "`targets` is no power of two from {0.TARGETS.low} to {0.TARGETS.high}"),
         (16, "of {0.LENGTH.low:,} to {0.LENGTH.high:,} cycles, with a pad of {0.PAD.low} to {0.PAD.high:,}."),
@@ -181,7 +183,7 @@ def test_each_refusal_of_the_document_has_a_case(line: str) -> None:
         assert holding == [case_of(refusal, version)]
 
 
-@pytest.mark.parametrize("rule", (3, 11, 12, 13, 15, 19, 22))
+@pytest.mark.parametrize("rule", (3, 11, 12, 13, 15, 19, 20, 22))
 def test_an_example_is_of_the_case_of_its_row(rule: int) -> None:
     for number, broken, example in table_with("case", "broken where", "an example", text=section_of(rule)):
         (numbers,) = NUMBERS.findall(f"{example} |")

@@ -7,7 +7,7 @@ from dataclasses import dataclass
 from typing import TYPE_CHECKING
 
 from tp_sdk import keys
-from tp_sdk.calls import CALLS, EVERY_CALL
+from tp_sdk.calls import CALLS, EVERY_CALL, calls_where
 from tp_sdk.schedule import domain_names
 
 if TYPE_CHECKING:
@@ -21,9 +21,10 @@ _ENTRY = re.compile(r"entry (\d{1,9}) operation (\d{1,20}) bound (\d{1,20})")
 
 
 def calls_of(image: Image, domain: int) -> frozenset[int]:
-    """The calls that a domain may make: all, where no list leaves some out."""
+    """The calls that a domain may make: all that there are, where no list leaves some out."""
     listed = image["domain"][domain].get("calls") if keys.version_of(image) > keys.VERSION.low else None
-    return EVERY_CALL if listed is None else EVERY_CALL.intersection(listed)
+    there = calls_where(bool(image.get("mail")))
+    return there if listed is None else there.intersection(listed)
 
 
 def lines_written(calls: frozenset[int], line: int) -> int:
@@ -72,11 +73,12 @@ def _most_added(muldiv: dict[str, int] | None) -> int:
 @dataclass(frozen=True)
 class EntryBound:
     """The bound on the switch after an entry's slot, by the calls of its domain, and beside it the bound
-    of one that may make every call."""
+    of one that may make every call; `left_out` has how many its list leaves out."""
 
     entry: int
     domain: str
     calls: list[str]
+    left_out: int
     operation: int
     bound: int
     with_every_call: int
@@ -91,6 +93,7 @@ class EntryBound:
 def bounds_of(image: Image) -> list[EntryBound]:
     """The bounds of an image, by its entries."""
     names, every = domain_names(image), bound_on_a_switch(image)
+    there = calls_where(bool(image.get("mail")))
     bounds = []
     for number, entry in enumerate(image["schedule"]):
         calls = calls_of(image, entry["domain"])
@@ -98,7 +101,8 @@ def bounds_of(image: Image) -> list[EntryBound]:
         told = [call.name for call in CALLS if call.number in calls]
         bound = sum(parts.values()) - 1
         name = names[entry["domain"]]
-        bounds.append(EntryBound(number, name, told, parts[OPERATION], bound, every, entry["pad"]))
+        lacks = len(there - calls)
+        bounds.append(EntryBound(number, name, told, lacks, parts[OPERATION], bound, every, entry["pad"]))
     return bounds
 
 

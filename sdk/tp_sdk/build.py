@@ -11,7 +11,7 @@ from tp_sdk.compiling import load_program
 from tp_sdk.description import Description, DomainDescription, EntryDescription
 from tp_sdk.elf import Loaded, Segment
 from tp_sdk.faults import Fault, Missing, Refused
-from tp_sdk.image import Image, ImageDomain, ImageEntry
+from tp_sdk.image import Image, ImageBox, ImageDomain, ImageEntry
 from tp_sdk.keys import KEY_ROWS, PAGE, Array
 from tp_sdk.program import Ended, Program
 from tp_sdk.spelling import did_you_mean
@@ -64,10 +64,11 @@ def build_text(
     loaded = load_programs(description) if programs is None else programs
     domains = [image_domain(it, its) for it, its in zip(description.domains, loaded)]
     numbers = numbers_of(description)
+    boxes = image_boxes(description, numbers)
 
     def image(pads: list[int]) -> str:
         entries = [image_entry(it, numbers, pad) for it, pad in zip(description.schedule, pads)]
-        return Image(description.version, description.machine, domains, entries).to_toml()
+        return Image(description.version, description.machine, domains, entries, boxes).to_toml()
 
     pads = [0] * len(description.schedule)
     for entry in description.schedule:
@@ -85,12 +86,14 @@ def build_text(
 
 
 def numbers_of(description: Description) -> dict[str, int]:
-    """The domains' places by their names; each entry of the schedule names one of them."""
+    """The domains' places by their names; each entry of the schedule and each end of a box names one."""
     numbers = {domain.name: number for number, domain in enumerate(description.domains)}
-    for entry in description.schedule:
-        if isinstance(entry.domain, str) and entry.domain not in numbers:
-            meant = did_you_mean(entry.domain, numbers) or f": {', '.join(numbers)}"
-            raise Fault(f"{entry.place}: there is no domain '{entry.domain}'{meant}")
+    named = [(entry.place, entry.domain) for entry in description.schedule]
+    named += [end for box in description.boxes for end in box.ends]
+    for place, name in named:
+        if isinstance(name, str) and name not in numbers:
+            meant = did_you_mean(name, numbers) or f": {', '.join(numbers)}"
+            raise Fault(f"{place}: there is no domain '{name}'{meant}")
     return numbers
 
 
@@ -147,6 +150,12 @@ def image_entry(entry: EntryDescription, numbers: dict[str, int], pad: int) -> I
     """An entry as the image has it; with no pad of its own it has this one."""
     domain = entry.domain if isinstance(entry.domain, int) else numbers[entry.domain]
     return ImageEntry(domain, entry.length, pad if entry.pad is None else entry.pad, entry.hart)
+
+
+def image_boxes(description: Description, numbers: dict[str, int]) -> list[ImageBox]:
+    """The mailboxes as the image has them."""
+    ends = [[numbers[it] if isinstance(it, str) else it for _, it in box.ends] for box in description.boxes]
+    return [ImageBox(*it) for it in ends]
 
 
 def load(it: DomainDescription, arch: str) -> Loaded:

@@ -34,6 +34,8 @@ class Error:
 
 
 PUT = Call(1, "PUT", (11,))
+SEND = Call(19, "SEND", (14, 15))
+RECV = Call(20, "RECV", (14, 16))
 CALLS = (
     Call(0, "EXIT", ()),
     PUT,
@@ -50,8 +52,11 @@ CALLS = (
     Call(12, "SPAWN", (7, 13)),
     Call(13, "YIELD", ()),
     Call(14, "ENDTHREAD", ()),
+    SEND,
+    RECV,
 )
 EVERY_CALL = frozenset(call.number for call in CALLS)
+MAIL_CALLS = frozenset((SEND.number, RECV.number))
 # As descriptions name them: "exit", "put".
 NUMBERS = {call.name.lower(): call.number for call in CALLS}
 BAD_CALL = Error(1, "BadCall", "no call has the number, or the domain's `calls` leave it out")
@@ -69,6 +74,9 @@ ERRORS = (
     Error(11, "OutputFull", "4,096 bytes are printed"),
     Error(12, "InUse", "some page is mapped through the table, by a capability"),
     Error(13, "NoThread", "all eight threads are live"),
+    Error(14, "NoBox", "no box of the number is from the caller (SEND), or to it (RECV)"),
+    Error(15, "BoxFull", "16 words were put into the box since the caller's slot began"),
+    Error(16, "NoMail", "no word is left in the box"),
 )
 
 _BY_CODE = {error.code: error for error in ERRORS}
@@ -79,10 +87,17 @@ def error_of(code: int) -> Error:
     return _BY_CODE.get(code, Error(code, "unknown", "the program's table has no such code"))
 
 
-def callers_of(code: int, calls: frozenset[int] = EVERY_CALL) -> list[str]:
-    """The calls that can be refused with a code, where these may be made."""
+def calls_where(has_mail: bool) -> frozenset[int]:
+    """The calls that there are in an image that has mailboxes, or none."""
+    return EVERY_CALL if has_mail else EVERY_CALL - MAIL_CALLS
+
+
+def callers_of(
+    code: int, calls: frozenset[int] = EVERY_CALL, there: frozenset[int] = EVERY_CALL
+) -> list[str]:
+    """The calls that can be refused with a code, where these may be made of those that there are."""
     if code == BAD_CALL.code:
-        return [call.name for call in CALLS if call.number not in calls]
+        return [call.name for call in CALLS if call.number in there - calls]
     return [call.name for call in CALLS if call.number in calls and code in call.refused_with]
 
 

@@ -44,6 +44,8 @@ def count_events(program: Program, image: Image, file: str, domain: int, slots: 
     written(program, ["check"], image, file)
     if image["domain"][domain].get("moments"):
         raise Fault(f"{file}: interrupts come to domain {domain} by the clock, so costs change what it does")
+    if any(it["to"] == domain for it in image.get("mail", [])):
+        raise Fault(f"{file}: boxes lead to domain {domain}, and alone, as it is counted, no word comes in")
     runs = _Runs(program, image, file, domain)
     if slots > len(runs.schedule):
         raise Fault(f"{file}: of the first {len(runs.schedule)} slots alone can events be counted")

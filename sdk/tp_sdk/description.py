@@ -16,6 +16,8 @@ from tp_sdk.elf import PAGES, Loaded, Segment
 from tp_sdk.faults import Fault, read_text, refuse_unread
 from tp_sdk.instructions import arch_of
 from tp_sdk.keys import (
+    BOX_ENDS,
+    FRAME,
     HEX,
     KEY_ROWS,
     PAGE,
@@ -59,13 +61,13 @@ def _keys_of(place: Place) -> dict[str, Key]:
     }
 
 
-_FRAME = ("version", "domain", "schedule")
-MACHINE_KEYS = {name: key for name, key in _keys_of(Place.TOP).items() if name not in _FRAME}
+MACHINE_KEYS = {name: key for name, key in _keys_of(Place.TOP).items() if name not in FRAME}
 FRAME_KEYS = {
     "version": Key(VERSION, f"the version of the format, {VERSION.low} or {VERSION.high}", needed=False),
     "machine": Key(Text(), "the name of a file with the machine's keys"),
     "domain": Key(Array(Table(), 1), "one or more tables [[domain]]"),
     "schedule": Key(Array(Table(), 1), "one or more tables [[schedule]]"),
+    "mail": Key(Array(Table()), "tables [[mail]], one for each box", needed=False),
 }
 _LISTS = {
     "colours": Key(Array(Integer()), "an array of integers"),
@@ -83,8 +85,10 @@ DOMAIN_KEYS = {
 }
 WRITTEN_DOMAIN_KEYS = _keys_of(Place.DOMAIN) | {"calls": _LISTS["calls"]}
 SEGMENT_KEYS = _keys_of(Place.SEGMENT)
+_DOMAIN = Key(Either((Text(), Integer())), "the name of a domain, or its place")
+BOX_KEYS = dict.fromkeys(BOX_ENDS, _DOMAIN)
 ENTRY_KEYS = {
-    "domain": Key(Either((Text(), Integer())), "the name of a domain, or its place"),
+    "domain": _DOMAIN,
     "length": Key(Integer(), "an integer: cycles"),
     "pad": Key(Integer(), "an integer: cycles", needed=False),
     "hart": Key(Integer(), "an integer: the number of the hart that runs it", needed=False),
@@ -118,6 +122,20 @@ class EntryDescription:
     length: int
     pad: int | None
     hart: int
+
+
+@dataclass(frozen=True)
+class BoxDescription:
+    """A mailbox, by the domains at its ends; the places are where these are named."""
+
+    places: tuple[str, str]
+    sender: str | int
+    receiver: str | int
+
+    @property
+    def ends(self) -> tuple[tuple[str, str | int], tuple[str, str | int]]:
+        """Each end, after its place."""
+        return (self.places[0], self.sender), (self.places[1], self.receiver)
 
 
 class _Text:
@@ -181,6 +199,7 @@ class Description:
     machine: dict[str, Any]
     domains: list[DomainDescription]
     schedule: list[EntryDescription]
+    boxes: list[BoxDescription]
 
     @property
     def file(self) -> Path:
@@ -208,14 +227,15 @@ def read_description(file: Path, given: str | None = None, told: Told | None = N
         _check_machine(machine, ())
     else:
         machine = text
-        text.check({name: FRAME_KEYS[name] for name in _FRAME} | _optional(MACHINE_KEYS), text.data, ())
+        text.check({name: FRAME_KEYS[name] for name in FRAME} | _optional(MACHINE_KEYS), text.data, ())
         if not any(key in text.data for key in MACHINE_KEYS):
             raise Fault(f"{text.place(())}: 'machine' is missing: {FRAME_KEYS['machine'].words}")
-        _check_machine(text, _FRAME)
+        _check_machine(text, FRAME)
     domains = [_domain(text, number, table) for number, table in enumerate(text.data["domain"])]
     schedule = [_entry(text, number, table) for number, table in enumerate(text.data["schedule"])]
+    boxes = [_box(text, number, table) for number, table in enumerate(text.data.get("mail", []))]
     keys = {key: value for key, value in machine.data.items() if key in MACHINE_KEYS}
-    return Description(text, text.data.get("version"), machine, keys, domains, schedule)
+    return Description(text, text.data.get("version"), machine, keys, domains, schedule, boxes)
 
 
 def describe(programs: dict[str, Path], machine: Path, length: int, stack: int | None) -> tuple[str, Told]:
@@ -331,3 +351,10 @@ def _entry(text: _Text, number: int, table: dict[str, Any]) -> EntryDescription:
     text.check(ENTRY_KEYS, table, path)
     pad, hart = table.get("pad"), table.get("hart", 0)
     return EntryDescription(text.place(path), table["domain"], table["length"], pad, hart)
+
+
+def _box(text: _Text, number: int, table: dict[str, Any]) -> BoxDescription:
+    path: toml_places.Path = ("mail", number)
+    text.check(BOX_KEYS, table, path)
+    sender, receiver = (text.place((*path, key)) for key in BOX_ENDS)
+    return BoxDescription((sender, receiver), *(table[key] for key in BOX_ENDS))

@@ -3,8 +3,8 @@
 from __future__ import annotations
 
 from tp_sdk.calls import NUMBERS
-from tp_sdk.description import DOMAIN_KEYS, ENTRY_KEYS, FRAME_KEYS, WRITTEN_DOMAIN_KEYS, Key
-from tp_sdk.keys import CALL, Place
+from tp_sdk.description import BOX_KEYS, DOMAIN_KEYS, ENTRY_KEYS, FRAME_KEYS, WRITTEN_DOMAIN_KEYS, Key
+from tp_sdk.keys import CALL, MAIL_CALL, Place
 from tp_sdk.schema import Schema, of_kind, of_place, of_versions, values_at
 from tp_sdk.values import PLACE, VALUE, WANTED
 
@@ -14,7 +14,7 @@ def description_schema() -> Schema:
     top = of_place(Place.TOP)
     image = top["properties"]
     domain = image["domain"]["items"]["properties"]
-    machine = [key for key in image if key not in ("domain", "schedule")]
+    machine = [key for key in image if key not in ("domain", "schedule", "mail")]
     needed = [key for key in machine if key in top["required"]]
     return {
         "$schema": "http://json-schema.org/draft-07/schema#",
@@ -40,6 +40,10 @@ def description_schema() -> Schema:
                     [key for key, it in ENTRY_KEYS.items() if it.needed],
                 )
                 | values_at(Place.TOP, "schedule"),
+                "mail": _tables(
+                    FRAME_KEYS["mail"], {key: _of(it) for key, it in BOX_KEYS.items()}, list(BOX_KEYS)
+                )
+                | values_at(Place.TOP, "mail"),
             },
             ["domain", "schedule"],
             [["machine"], needed],
@@ -51,7 +55,7 @@ def description_schema() -> Schema:
 _CALLS: Schema = {
     "description": DOMAIN_KEYS["calls"].words,
     "type": "array",
-    "items": {"anyOf": [{"enum": list(NUMBERS)}, of_kind(CALL)]},
+    "items": {"anyOf": [{"enum": list(NUMBERS)}, of_kind(CALL), of_kind(MAIL_CALL)]},
     "uniqueItems": True,
 }
 _WORDS: Schema = {

@@ -213,6 +213,10 @@ def label(path: Path, image: Image) -> str:
             return f"{_key(rest)} of {_entry(number, image)}"
         case ("schedule", int(number)):
             return _entry(number, image)
+        case ("mail", int(number), *rest) if rest:
+            return f"{_key(rest)} of {_box(number, image)}"
+        case ("mail", int(number)):
+            return _box(number, image)
         case ():
             return "the text"
     return _key(list(path))
@@ -234,13 +238,32 @@ def _domain(number: int, image: Image) -> str:
 def _entry(number: int, image: Image) -> str:
     """An entry, and whose it is."""
     try:
-        owner = image["schedule"][number]["domain"]
-        # (below 0, and of a Boolean, Python would take another's)
-        is_number = type(owner) is int and owner >= 0
-        name = image["domain"][owner]["name"] if is_number else None
+        name = _name_of(image["schedule"][number]["domain"], image)
     except (KeyError, IndexError, TypeError):
         name = None
-    return f"entry {number} ({name})" if isinstance(name, str) else f"entry {number}"
+    return f"entry {number}" if name is None else f"entry {number} ({name})"
+
+
+def _box(number: int, image: Image) -> str:
+    """A box, and between whom it is, as far as there are such domains."""
+    table = image["mail"][number]
+    ends = table if isinstance(table, dict) else {}
+    names = {key: _name_of(ends.get(key), image) for key in keys.BOX_ENDS}
+    told = [f"{key} {name}" for key, name in names.items() if name is not None]
+    between = " to ".join(map(str, names.values())) if len(told) == len(names) else " ".join(told)
+    return f"box {number} ({between})" if told else f"box {number}"
+
+
+def _name_of(domain: Any, image: Image) -> str | None:
+    """The name of the domain of a number, where there is one and it has a name."""
+    # (below 0, and of a Boolean, Python would take another's)
+    if type(domain) is not int or domain < 0:
+        return None
+    try:
+        name = image["domain"][domain]["name"]
+    except (KeyError, IndexError, TypeError):
+        return None
+    return name if isinstance(name, str) else None
 
 
 def _of_no_toml(text: bytes, file: str, refusal: Refusal, case: Case) -> Explanation:

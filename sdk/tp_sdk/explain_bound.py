@@ -11,6 +11,7 @@ from tp_sdk.bounds import OPERATION, Bound, EntryBound, bound_on_a_switch, bound
 from tp_sdk.calls import CALLS, in_words
 from tp_sdk.explain import label
 from tp_sdk.faults import Fault
+from tp_sdk.mail import OpenOrders
 from tp_sdk.schedule import entries_of
 from tp_sdk.toml_places import read_with_places
 
@@ -45,7 +46,7 @@ def sentence_of(it: EntryBound, what: str, line: int) -> str:
 def _calls_of(it: EntryBound, line: int) -> str:
     """The calls that may be made, and which of them writes most."""
     own = [call for call in CALLS if call.name in it.calls]
-    may = "every call" if len(own) == len(CALLS) else in_words(it.calls, "and") if own else "no call"
+    may = "every call" if not it.left_out else in_words(it.calls, "and") if own else "no call"
     most = max(own, key=lambda call: call.lines_written(line), default=None)
     if most is None or not most.lines_written(line):
         return f"it may make {may}: no frame is zeroed, no entry written"
@@ -66,6 +67,7 @@ class BoundTold:
         try:
             entries_of(self.image, file)
             self.entries = bounds_of(self.image)
+            self.open_orders = OpenOrders(self.image, file)
             is_of_image = self._is_of_image()
         except (KeyError, IndexError, TypeError, ZeroDivisionError):
             is_of_image = False
@@ -94,7 +96,7 @@ class BoundTold:
             "  " + sentence_of(it, label(("schedule", it.entry), self.image), self.image["line"])
             for it in self.entries
         ]
-        return lines
+        return lines + [f"  {told}" for told in self.open_orders.sentences()]
 
     def fields(self) -> dict[str, Any]:
         """What `--json` writes."""
@@ -103,5 +105,6 @@ class BoundTold:
             "parts": self.bound.parts,
             "bound": self.bound.total,
             "entries": [asdict(entry) for entry in self.entries],
+            "open_orders": self.open_orders.fields(),
             "sentences": [line.strip() for line in self.sentences()],
         }

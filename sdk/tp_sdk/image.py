@@ -53,22 +53,33 @@ class ImageEntry:
         return f"[[schedule]]\ndomain = {self.domain}\nlength = {self.length}\npad = {self.pad}\n{hart}"
 
 
+@dataclass(frozen=True)
+class ImageBox:
+    """A mailbox."""
+
+    sender: int
+    receiver: int
+
+    def to_toml(self) -> str:
+        """Its table."""
+        return f"[[mail]]\nfrom = {self.sender}\nto = {self.receiver}\n"
+
+
 @dataclass
 class Image:
     """An image: the version of its format, where it is told, the keys of its machine, its domains, its
-    schedule."""
+    schedule, its mailboxes."""
 
     version: int | None
     machine: dict[str, Any]
     domains: list[ImageDomain]
     schedule: list[ImageEntry]
+    boxes: list[ImageBox]
 
     def to_toml(self) -> str:
         """The text."""
-        machine = machine_text(self.version, self.machine)
-        return "\n".join(
-            [machine, *(it.to_toml() for it in self.domains), *(it.to_toml() for it in self.schedule)]
-        )
+        tables: list[ImageDomain | ImageEntry | ImageBox] = [*self.domains, *self.schedule, *self.boxes]
+        return "\n".join([machine_text(self.version, self.machine), *(it.to_toml() for it in tables)])
 
 
 def machine_text(version: int | None, machine: dict[str, Any]) -> str:

@@ -8,6 +8,7 @@ from pathlib import Path
 from tp_sdk.build import build_text
 from tp_sdk.description import read_description
 from tp_sdk.faults import Fault, read_text
+from tp_sdk.keys import BOX_ENDS
 from tp_sdk.program import Program
 from tp_sdk.refusals import Image
 
@@ -32,11 +33,12 @@ def values_of(text: str, file: Path) -> Image:
 
 def is_described(image: Image) -> bool:
     """Something in it stands for what an image has there."""
-    domains, entries = (_tables(image, key) for key in ("domain", "schedule"))
+    domains, entries, boxes = (_tables(image, key) for key in ("domain", "schedule", "mail"))
     return (
         "machine" in image
         or any("program" in domain for domain in domains)
         or any("pad" not in entry or isinstance(entry.get("domain"), str) for entry in entries)
+        or any(isinstance(box.get(end), str) for box in boxes for end in BOX_ENDS)
     )
 
 

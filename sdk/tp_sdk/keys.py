@@ -71,6 +71,7 @@ class Place(Enum):
     DOMAIN = "domain"
     SEGMENT = "domain segment"
     ENTRY = "schedule"
+    BOX = "mail"
 
     @property
     def path(self) -> tuple[str, ...]:
@@ -190,6 +191,9 @@ KEY_ROWS = (
         "integer: the number of the hart that runs it; it may be missing",
         needed=False,
     ),
+    KeyRow(32, Place.TOP, "mail", Array(Table()), "array of tables; it may be missing", needed=False),
+    KeyRow(33, Place.BOX, "from", Integer(), "integer: the place of the domain that sends"),
+    KeyRow(34, Place.BOX, "to", Integer(), "integer: the place of the domain that receives"),
     KeyRow(
         37,
         Place.TOP,
@@ -200,6 +204,9 @@ KEY_ROWS = (
     ),
     KeyRow(38, Place.TOP, "targets", Integer(), "integer: places; it may be missing", needed=False),
 )
+
+# The keys at the top that are not the machine's.
+FRAME = ("version", "domain", "schedule", "mail")
 
 # ---- what the values' rules ask for, where the schema can ask for it, too
 
@@ -251,9 +258,11 @@ MOMENT = Within(0, 1_000_000_000_000)
 LENGTH = Within(1_000, 1_000_000)
 PAD = Within(0, 1_000_000)
 CALL = Within(0, 14)
-# The calls on mailboxes, which `calls` may list, too: no image has mailboxes as yet, so they are bad calls.
-MAIL_CALL = Within(19, 20)
+MAIL_CALL = Within(19, 20)  # those on mailboxes: in an image without any they are bad calls
 HART = Within(0, 3)
+BOXES_MOST = 64
+BOX_WORDS = 16  # that a slot of the sender may put into one
+BOX_ENDS = ("from", "to")
 
 
 @dataclass(frozen=True)
@@ -340,7 +349,7 @@ def _tables_in(value: Any, place: Place) -> list[tuple[Path, Any]]:
 
 
 def broken_place(row: KeyRow, image: dict[str, Any], number: int) -> Path | None:
-    """Where a row is broken, in the domain or the entry of this number."""
+    """Where a row is broken, in the domain, the entry or the box of this number."""
     for path, table in tables_at(image, row.place):
         if not row.place.is_one and path[1] != number:
             continue

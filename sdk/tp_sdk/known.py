@@ -5,7 +5,7 @@ from __future__ import annotations
 from dataclasses import dataclass, field
 from pathlib import Path
 
-from tp_sdk.calls import EVERY_CALL
+from tp_sdk.calls import EVERY_CALL, calls_where
 from tp_sdk.description import Description
 from tp_sdk.elf import Loaded, load_elf
 from tp_sdk.faults import Fault
@@ -24,13 +24,14 @@ class KnownEntry:
 
 @dataclass
 class Known:
-    """An image, or nothing, as `file` is none."""
+    """An image, or nothing, as `file` is none; `there` has the calls that there are."""
 
     file: Path | None = None
     names: list[str] = field(default_factory=list)
     programs: list[Loaded] = field(default_factory=list)
     entries: list[KnownEntry] = field(default_factory=list)
     calls: list[frozenset[int]] = field(default_factory=list)
+    there: frozenset[int] = EVERY_CALL
 
     @property
     def harts(self) -> int:
@@ -39,7 +40,7 @@ class Known:
 
     def calls_of(self, domain: int) -> frozenset[int]:
         """The calls that a domain may make, as far as is known."""
-        return self.calls[domain] if domain < len(self.calls) else EVERY_CALL
+        return self.calls[domain] if domain < len(self.calls) else self.there
 
     def program(self, domain: int) -> Loaded | None:
         """The program of a domain."""
@@ -62,8 +63,9 @@ def known_of(description: Description, programs: list[Loaded]) -> Known:
         KnownEntry(it.domain if isinstance(it.domain, int) else numbers.get(it.domain, -1), it.pad, it.hart)
         for it in description.schedule
     ]
-    calls = [EVERY_CALL if it.calls is None else frozenset(it.calls) for it in description.domains]
-    return Known(description.file, names, programs, entries, calls)
+    there = calls_where(bool(description.boxes))
+    calls = [there if it.calls is None else there.intersection(it.calls) for it in description.domains]
+    return Known(description.file, names, programs, entries, calls, there)
 
 
 def known_by(report: Report, file: Path) -> Known:

@@ -11,6 +11,7 @@ from pathlib import Path
 from tp_sdk.guards import GUARDS
 
 BUILT = Path("lib") / "out" / "libtp.so"
+BESIDE = Path("libtp.so")  # in the folder that has an installed repository, as PREFIX/lib
 TOO_SMALL = 7
 GREATEST = 2**32 - 1
 FEW_SLOTS = 256
@@ -58,12 +59,22 @@ def named_by(path: Path) -> Path | None:
 
 
 def newest(repository: Path, program: Path) -> Path | None:
-    """The library that is built in the repository, unless the program is newer."""
+    """The library that is built in the repository, unless the program is newer; where the repository is installed, the
+    one of its version that is installed beside it."""
     library = repository / BUILT
     if not library.is_file():
-        return None
+        return _beside(repository)
     is_old = program.is_file() and program.stat().st_mtime > library.stat().st_mtime
     return None if is_old else library
+
+
+def _beside(repository: Path) -> Path | None:
+    """What `make -C lib install` puts where `make install` puts the repository, which has no sources then."""
+    library, version = repository.parent / BESIDE, repository / "VERSION"
+    if (repository / "crates.txt").exists() or not (library.is_file() and version.is_file()):
+        return None
+    is_same = library.resolve().name == f"{BESIDE.name}.{version.read_text().strip()}"
+    return library if is_same else None
 
 
 def _value(option: str, word: str) -> int | None:

@@ -1,4 +1,4 @@
-"""A report's parts as its lines tell them, and its switches: all that a sweep reads of one."""
+"""A report's parts as its lines tell them, and its switches; and, quickly, what a sweep reads of one."""
 
 from __future__ import annotations
 
@@ -9,6 +9,7 @@ from tp_sdk.faults import Fault
 from tp_sdk.guards import GUARDS
 
 _SWITCHES = 1024  # lines that are kept: those of many reports are alike
+_DOMAIN, _SWITCH, _END = "\ndomain ", "\nswitch ", "\nend\n"
 
 # What reading a line that isn't what it should be leads to.
 BROKEN = (ValueError, IndexError, KeyError)
@@ -37,17 +38,12 @@ class Outline:
     sections: list[tuple[int, list[str]]]
     switches: list[tuple[int, str]]
 
-    def lines_of(self, domain: str) -> list[str]:
-        """The lines of a domain's section, by its name."""
-        return next(lines for _, lines in self.sections if lines[0].split()[2] == domain)
-
 
 def outline_of(text: str, file: str) -> Outline:
     """Takes a report apart; `file` is named where it is none."""
     lines = text.splitlines()
     if not lines or lines[-1] != "end":
-        told = f": the program's answer is '{lines[0]}'" if lines and lines[0].startswith("refused ") else ""
-        raise Fault(f"{file}: no report, which ends with the line 'end'{told}")
+        raise _no_report(lines, file)
     outline = Outline(_off(lines[0], file), [], [])
     starts = [number for number, line in enumerate(lines) if line.startswith(("domain ", "switch ", "end"))]
     for start, after in zip(starts, starts[1:]):
@@ -56,6 +52,32 @@ def outline_of(text: str, file: str) -> Outline:
         else:
             outline.switches.append((start + 1, lines[start]))
     return outline
+
+
+@dataclass(frozen=True)
+class Parts:
+    """A report's parts as texts: each domain's section by its name, without the line that has it, and the lines of all
+    switches."""
+
+    sections: dict[str, str]
+    switches: str
+
+
+def parts_of(text: str, file: str) -> Parts:
+    """Cuts a report where its parts begin, and looks at no line between: a sweep does this at each run."""
+    if not text.endswith(_END):
+        raise _no_report(text.splitlines(), file)
+    whole, _, switches = text[: -len(_END)].partition(_SWITCH)
+    before, *parts = f"\n{whole}".split(_DOMAIN)
+    if before:
+        _off(before[1:], file)
+    heads = [part.partition("\n") for part in parts]
+    return Parts({head.split()[1]: section for head, _, section in heads}, f"switch {switches}")
+
+
+def _no_report(lines: list[str], file: str) -> Fault:
+    told = f": the program's answer is '{lines[0]}'" if lines and lines[0].startswith("refused ") else ""
+    return Fault(f"{file}: no report, which ends with the line 'end'{told}")
 
 
 @lru_cache(_SWITCHES)

@@ -6,6 +6,7 @@ from collections.abc import Sequence
 from pathlib import Path
 from typing import TYPE_CHECKING, Any
 
+from tp_sdk.mail import Box
 from tp_sdk.memory import Frame, Memory, Use
 from tp_sdk.plots import PLAIN, SMALL, WIDTH, Figure, colour_of, grey, ink, is_dark, mixed, paper, save
 
@@ -22,10 +23,10 @@ _MOST_TOLD = 18
 _COLUMNS = 3  # of the legend
 
 
-def draw_memory(file: Path, names: Sequence[str], memory: Memory) -> None:
+def draw_memory(file: Path, names: Sequence[str], memory: Memory, boxes: Sequence[Box] = ()) -> None:
     """A row for each colour, or for several that are nobody's: its frames, and below them its sets of
-    the second level."""
-    legend, rows = _legend(names, memory), len(memory.ranges())
+    the second level. The legend tells by which boxes one domain may tell another."""
+    legend, rows = _legend(names, memory, boxes), len(memory.ranges())
     heights = [0.2 + 0.17 * -(-len(legend) // _COLUMNS), 0.6 + 0.36 * rows, 0.6 + 0.24 * rows]
     figure = Figure(figsize=(WIDTH, sum(heights)), layout="constrained")
     above, frames, sets = figure.subplots(3, 1, height_ratios=heights)
@@ -68,7 +69,7 @@ def _draw_sets(axes: Axes, names: Sequence[str], memory: Memory) -> None:
     axes.set_xlabel(f"in column s and the row of colour k is set {memory.sets_of_colour} k + s")
 
 
-def _legend(names: Sequence[str], memory: Memory) -> list[Patch]:
+def _legend(names: Sequence[str], memory: Memory, boxes: Sequence[Box]) -> list[Patch]:
     shared = sum(memory.shared_lines)
     return [
         Patch(facecolor=grey(_SHARED), label=f"the kernel's region, shared by all ({shared} lines)"),
@@ -76,7 +77,12 @@ def _legend(names: Sequence[str], memory: Memory) -> list[Patch]:
         Patch(facecolor=grey(_NOBODYS), label="nobody's"),
         Patch(facecolor="none", label="strongest to faintest: clone of the kernel,"),
         Patch(facecolor="none", label="page tables, pages by their numbers, free"),
+        *(Patch(facecolor=colour_of(it.sender), label=_telling(it, names)) for it in boxes),
     ]
+
+
+def _telling(box: Box, names: Sequence[str]) -> str:
+    return f"{names[box.sender]} may tell {names[box.receiver]}"
 
 
 def _show(axes: Axes, cells: Any, names: Sequence[str], memory: Memory) -> None:

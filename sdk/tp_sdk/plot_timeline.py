@@ -9,6 +9,8 @@ from typing import TYPE_CHECKING
 
 from tp_sdk.bounds import EntryBound
 from tp_sdk.keys import LENGTH
+from tp_sdk.mail import Mail
+from tp_sdk.plot_deliveries import Arrow, arrows_of, draw_arrows, legend_of
 from tp_sdk.plots import PLAIN, SMALL, WIDTH, Figure, colour_of, grey, ink, paper, save, title
 from tp_sdk.replay import Did, Replay, number
 from tp_sdk.report import Report, Section
@@ -102,14 +104,16 @@ def draw_timeline(
     strips: Sequence[Strip],
     most: int,
     bounds: Sequence[EntryBound] = (),
+    mail: Mail = Mail(),
 ) -> None:
     """The first slots, what was done in them, their pads and what switches used, a strip for each report,
-    in whose rows each hart has a lane; and, where bounds are given, those of each domain beside the bound
-    with every call."""
+    in whose rows each hart has a lane, and an arrow for each delivery of a box that may have been; and, where
+    bounds are given, those of each domain beside the bound with every call."""
     of_domains = list({it.domain: it for it in bounds}.values())
     lanes = lanes_of(entries, len(names))
     parts = [part for strip in strips for part in parts_of(entries, strip, most)]
-    legend = _legend(strips, bool(of_domains))
+    arrows = [_arrows(entries, mail, part) for part in parts]
+    legend = _legend(strips, bool(of_domains)) + legend_of([it for of_part in arrows for it in of_part])
     heights = [0.1 + 0.17 * -(-len(legend) // _COLUMNS)]
     heights += [0.5 * (lanes[-1].last_row + 1)] * len(parts)
     heights += [0.3 + 0.25 * len(of_domains)] if of_domains else []
@@ -121,10 +125,11 @@ def draw_timeline(
     above.legend(handles=legend, loc="upper left", ncols=_COLUMNS, frameon=False, borderaxespad=0)
     # (a cycle is as wide in each row)
     widest = max(_cycles(entries, part)[1] for part in parts)
-    for axes, part in zip(places, parts):
+    for axes, part, its in zip(places, parts, arrows):
         first, _ = _cycles(entries, part)
         axes.set_xlim(first, first + widest)
         _draw_part(axes, names, lanes, entries, part)
+        draw_arrows(axes, _rows(lanes), its)
     if of_domains:
         _draw_bounds(places[-1], names, of_domains)
     save(figure, file)
@@ -145,9 +150,9 @@ def _draw_part(
 ) -> None:
     for lane in lanes:
         _draw_lane(axes, lane, entries, part)
-    rows = {row: domain for lane in lanes for domain, row in lane.rows.items()}
+    rows = _rows(lanes)
     of_hart = "" if len(lanes) == 1 else "hart {}: "
-    axes.set_yticks(list(rows), [of_hart.format(hart_for(entries, it)) + names[it] for it in rows.values()])
+    axes.set_yticks(list(rows.values()), [of_hart.format(hart_for(entries, it)) + names[it] for it in rows])
     axes.set_ylim(lanes[-1].last_row + _BELOW, -_ABOVE)
     axes.xaxis.set_major_locator(MaxNLocator(nbins=8, integer=True))
     axes.xaxis.set_major_formatter(StrMethodFormatter("{x:,.0f}"))
@@ -156,6 +161,17 @@ def _draw_part(
         clock = "cycles" if len(lanes) == 1 else "cycles, by each hart's own clock"
         told = [_summary(section, entries, part) for section in part.strip.report.sections]
         axes.set_xlabel("\n".join([clock, *told]), loc="left", fontsize=SMALL)
+
+
+def _rows(lanes: Sequence[Lane]) -> dict[int, float]:
+    """The row of each domain."""
+    return {domain: row for lane in lanes for domain, row in lane.rows.items()}
+
+
+def _arrows(entries: Sequence[Entry], mail: Mail, part: Part) -> list[Arrow]:
+    """Those of a row of slots, as far as they are drawn."""
+    arrows = arrows_of(entries, mail, part.strip.replays, part.drawn)
+    return [it for it in arrows if any(slot in part.slots for slot in it.slots)]
 
 
 def _draw_lane(axes: Axes, lane: Lane, entries: Sequence[Entry], part: Part) -> None:

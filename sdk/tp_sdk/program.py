@@ -25,11 +25,13 @@ class Ended:
 
 @dataclass(frozen=True)
 class Program:
-    """The program, by its path; the library that answers in its place, where one does; and who is told of its runs."""
+    """The program, by its path; the library that answers in its place, where one does; who is told of its runs; and the
+    environment that they have."""
 
     path: Path
     shared: Path | None = None
     progress: Progress = field(default_factory=Progress, compare=False)
+    environment: dict[str, str] = field(default_factory=lambda: dict(os.environ), compare=False, repr=False)
 
     @classmethod
     def find(cls, progress: Progress | None = None) -> Program:
@@ -64,7 +66,7 @@ class Program:
             if self.progress.is_shown:
                 code, text = self._told_of(words, image.encode())
             else:
-                code, text = spawning.run([str(self.path), *words], image.encode())
+                code, text = spawning.run([str(self.path), *words], image.encode(), self.environment)
             return Ended(code, text.decode())
         except (OSError, UnicodeDecodeError):
             raise self.other() from None

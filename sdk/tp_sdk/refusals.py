@@ -13,7 +13,7 @@ from tp_sdk.toml_places import Path
 
 Image = dict[str, Any]
 
-_RULES_OF_CASES = (3, 11, 12, 13, 15, 16, 19, 22)
+_RULES_OF_CASES = (3, 11, 12, 13, 15, 16, 19, 20, 22)
 
 _LINE = re.compile(r"refused K(\d{1,9}) at (-?\d{1,20}) found (-?\d{1,20}) wanted (-?\d{1,20})")
 
@@ -137,6 +137,26 @@ def _hart_in(number: int, image: Image) -> Path:
     return ("schedule", number, "hart" if "hart" in image["schedule"][number] else "domain")
 
 
+def _of_no_domain(refusal: Refusal, image: Image) -> Path | None:
+    """The end of the box told that names no domain: the sender's, where both are the number found."""
+    box, domains = image["mail"][refusal.at], len(image["domain"])
+    is_none = not 0 <= refusal.found < domains
+    ends = (key for key in keys.BOX_ENDS if is_none and box[key] == refusal.found)
+    return next((("mail", refusal.at, key) for key in ends), None)
+
+
+def _of_receiver(refusal: Refusal, image: Image) -> Path | None:
+    """The receiver of the box told, where an earlier one has the same ends, or its sender is the same."""
+    box = image["mail"][refusal.at]
+    sender, receiver = (box[key] for key in keys.BOX_ENDS)
+    if refusal.wanted == 3:
+        is_told = sender == receiver == refusal.found
+    else:
+        earlier = image["mail"][refusal.found]
+        is_told = refusal.found < refusal.at and [earlier[key] for key in keys.BOX_ENDS] == [sender, receiver]
+    return ("mail", refusal.at, "to") if is_told else None
+
+
 def _in_list(key: str, again: bool) -> Callable[[Refusal, Image], Path | None]:
     """The item of a domain's list that is the number found; the second such one, where `again`."""
 
@@ -232,7 +252,7 @@ _K1 = Numbers(1, "0", "0", "0")
 _K2 = Numbers(
     2,
     "the row of the table of keys",
-    "the domain (rows 11 to 21, and 29), the entry (rows 23 to 25, and 31), else 0",
+    "the domain (rows 11 to 21, and 29), the entry (rows 23 to 25, and 31), the box (rows 33 and 34), else 0",
     "0",
 )
 _K3 = Numbers(3, "the part, 1 to 6", "the value (cases 3 and 4: the ways)", "the case, 1 to 4")
@@ -254,6 +274,12 @@ _K16 = Numbers(16, "the entry (case 1: 0)", "the value (case 1: how many there a
 _K17 = Numbers(17, "the entry", "the pad", "the bound")
 _K18 = Numbers(18, "the domain", "the place in the list", "14")
 _K19 = Numbers(19, "the entry (case 2: the hart)", "the hart, 0, or the domain", "the case")
+_K20 = Numbers(
+    20,
+    "the box (case 1: 0)",
+    "the domain (case 1: how many boxes there are; case 4: the earlier box)",
+    "the case",
+)
 _K22 = Numbers(22, "the case", "the cost, or the places", "1000 (case 3: 256)")
 
 
@@ -625,7 +651,7 @@ CASES: tuple[Case, ...] = (
         _K18,
         1,
         "it is no call, or not above the one before",
-        f"calls that ascend, {_from_to(keys.CALL)}",
+        f"calls that ascend, {_from_to(keys.CALL)}, or {keys.MAIL_CALL.low} or {keys.MAIL_CALL.high}",
         _of_item("calls"),
         other=_call_before,
     ),
@@ -653,6 +679,40 @@ CASES: tuple[Case, ...] = (
         _of_later_hart,
         _wanted_is(3),
         other=_of_earlier_hart,
+    ),
+    Case(
+        _K20,
+        1,
+        "there are more than 64",
+        f"{keys.BOXES_MOST} boxes or fewer (here {{found}} stand)",
+        _at("mail"),
+        _wanted_is(1),
+    ),
+    Case(
+        _K20,
+        2,
+        "there is no such domain",
+        "the place of a domain, from 0",
+        _of_no_domain,
+        _wanted_is(2),
+    ),
+    Case(
+        _K20,
+        3,
+        "`from` and `to` are one domain",
+        "a box from {other:found} to another domain",
+        _of_receiver,
+        _wanted_is(3),
+        other=lambda refusal, image: ("mail", refusal.at, "from"),
+    ),
+    Case(
+        _K20,
+        4,
+        "an earlier box is from and to the same",
+        "one box at most from a domain to another",
+        _of_receiver,
+        _wanted_is(4),
+        other=lambda refusal, image: ("mail", refusal.found, "to"),
     ),
     *(
         Case(

@@ -5,7 +5,8 @@ A run is determined by its image, and what happened before a slot's end doesn't 
 end is. So runs of fewer slots tell what each slot did; a schedule written out several times runs as
 it does once, and tells each switch by itself; and a slot that is cut short tells whether its domain
 had ended by then. Of several harts each is told by itself: what switches used depends on the order of
-their events, so a report of another order than that of `run` is not told."""
+their events, so a report of another order than that of `run` is not told. Nor is an image with a box from
+one hart to another: in as many slots of each less may have been told from there."""
 
 from __future__ import annotations
 
@@ -16,6 +17,7 @@ from typing import Any
 
 from tp_sdk import running
 from tp_sdk.keys import LENGTH, limits_of
+from tp_sdk.mail import are_between_harts, boxes_of
 from tp_sdk.program import Program
 from tp_sdk.refusals import Image
 from tp_sdk.report import Report, Section, parse_report
@@ -48,6 +50,8 @@ def replay(
     program: Program, image: Image, file: str, report: Report, count: int
 ) -> tuple[Replay, ...] | None:
     """Each hart's first slots by a report, where it is one that `run` writes of this image; else nothing."""
+    if are_between_harts(entries_of(image, file), boxes_of(image, file)):
+        return None
     slots = slots_of_each(entries_of(image, file), report)
     again = _run(program, image, file, slots)
     if _sections(again) != _sections(report) or _used(again) != _used(report):

@@ -40,16 +40,10 @@ class Rules:
         self.has_machine = not any(row <= 9 for row, _ in self.rows)
         of_domains = {number for row, number in broken if "domain" in row.place.path}
         of_entries = {number for row, number in broken if row.place is Place.ENTRY}
-        self.domains = [
-            _Domain(number, table)
-            for number, table in enumerate(_tables(image, "domain"))
-            if number not in of_domains
-        ]
-        self.entries = [
-            (number, table)
-            for number, table in enumerate(_tables(image, "schedule"))
-            if number not in of_entries
-        ]
+        of_boxes = {number for row, number in broken if row.place is Place.BOX}
+        self.domains = [_Domain(*it) for it in _whole_tables(image, "domain", of_domains)]
+        self.entries = _whole_tables(image, "schedule", of_entries)
+        self.boxes = _whole_tables(image, "mail", of_boxes)
 
     def broken(self) -> Iterator[Broken]:
         """The refusals; with a place where the refusal's numbers don't say which of several it is."""
@@ -58,7 +52,8 @@ class Rules:
         yield from sorted(rows, key=lambda it: it[0].at)
         values = [*self._machine(), *self._names(), *self._colours(), *self._shared()]
         values += [*self._segments(), *self._caps(), *self._lines(), *self._moments()]
-        values += [*self._schedule(), *self._pads(), *self._calls(), *self._harts(), *self._extensions()]
+        values += [*self._schedule(), *self._pads(), *self._calls(), *self._harts()]
+        values += [*self._boxes(), *self._extensions()]
         yield from ((it, None) for it in sorted(values, key=lambda it: it.rule))
 
     # ---- the machine
@@ -283,6 +278,24 @@ class Rules:
             if any(of == domain and other != hart for _, of, other in good[:place]):
                 yield Refusal(19, number, domain, 3)
 
+    # ---- mailboxes
+
+    def _boxes(self) -> Iterator[Refusal]:
+        count = len(_tables(self.image, "mail"))
+        if count > keys.BOXES_MOST:
+            yield Refusal(20, 0, count, 1)
+        domains = len(_tables(self.image, "domain"))
+        earlier: dict[tuple[int, ...], int] = {}
+        for number, it in self.boxes:
+            ends = tuple(it[key] for key in keys.BOX_ENDS)
+            nobodys = [end for end in dict.fromkeys(ends) if not 0 <= end < domains]
+            yield from (Refusal(20, number, end, 2) for end in nobodys)
+            if ends[0] == ends[1] and not nobodys:
+                yield Refusal(20, number, ends[0], 3)
+            if ends in earlier:
+                yield Refusal(20, number, earlier[ends], 4)
+            earlier.setdefault(ends, number)
+
     # ---- products and the target buffer
 
     def _extensions(self) -> Iterator[Refusal]:
@@ -296,7 +309,7 @@ class Rules:
 
 
 def _broken_rows(image: Image) -> Iterator[tuple[keys.KeyRow, int]]:
-    """Each broken row of the table of keys, with the domain or entry; by the rows, then by those."""
+    """Each broken row of the table of keys, with the domain, entry or box; by the rows, then by those."""
     for row in keys.rows_of(image):
         root = None if row.place.is_one else row.place.path[0]
         count = 1 if root is None else len(_tables(image, root))
@@ -308,6 +321,12 @@ def _broken_rows(image: Image) -> Iterator[tuple[keys.KeyRow, int]]:
 def _tables(image: Image, key: str) -> list[dict[str, Any]]:
     value = image.get(key)
     return [it if isinstance(it, dict) else {} for it in value] if isinstance(value, list) else []
+
+
+def _whole_tables(image: Image, key: str, broken: set[int]) -> list[tuple[int, dict[str, Any]]]:
+    """The tables of an array that have all that they must, with their numbers."""
+    # (what is no table is empty here, and breaks the array's own row)
+    return [it for it in enumerate(_tables(image, key)) if it[1] and it[0] not in broken]
 
 
 def _is_within(value: int, ends: Within) -> bool:

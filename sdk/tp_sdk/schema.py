@@ -143,6 +143,7 @@ _VALUES: dict[tuple[Place, str], Schema] = {
     (Place.TOP, "targets"): _powers_of_two(keys.TARGETS.low, keys.TARGETS.high),
     (Place.TOP, "domain"): _ends("minItems", _MOST.domains.low, "maxItems", _MOST.domains.high),
     (Place.TOP, "schedule"): _ends("minItems", _MOST.entries.low, "maxItems", _MOST.entries.high),
+    (Place.TOP, "mail"): _ends("minItems", None, "maxItems", keys.BOXES_MOST),
     (Place.DOMAIN, "name"): {"pattern": f"^{keys.NAME}$"},
     (Place.DOMAIN, "colours"): {
         "items": {"type": "integer", "minimum": 1, "exclusiveMaximum": keys.COLOURS.high},
@@ -162,9 +163,13 @@ _VALUES: dict[tuple[Place, str], Schema] = {
         },
         "maxItems": keys.MOMENTS_MOST,
     },
-    (Place.DOMAIN, "calls"): {"items": of_kind(keys.Either((keys.CALL, keys.MAIL_CALL))), "uniqueItems": True},
+    (Place.DOMAIN, "calls"): {
+        "items": of_kind(keys.Either((keys.CALL, keys.MAIL_CALL))),
+        "uniqueItems": True,
+    },
     (Place.SEGMENT, "rights"): {"enum": list(keys.RIGHTS)},
     (Place.SEGMENT, "hex"): {"pattern": f"^{keys.HEX}$"},
+    **{(Place.BOX, key): _entry_of(_MOST)["domain"] for key in keys.BOX_ENDS},
     (Place.ENTRY, "domain"): _entry_of(_MOST)["domain"],
     (Place.ENTRY, "length"): of_kind(keys.LENGTH),
     (Place.ENTRY, "pad"): of_kind(keys.PAD),

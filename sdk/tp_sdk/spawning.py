@@ -1,38 +1,67 @@
 """A process for each run of the program, where many are run: with files of memory in the place of pipes, so that
-nothing has to be awaited but its end."""
+nothing has to be awaited but its end. A run has the files of one before it."""
 
 from __future__ import annotations
 
 import os
 import signal
+from collections.abc import Mapping
 
 # What Python has ignored in itself, and other programs do not expect to be.
 _AS_EVER = [getattr(signal, name) for name in ("SIGPIPE", "SIGXFSZ") if hasattr(signal, name)]
 
 
-def run(command: list[str], given: bytes) -> tuple[int, bytes]:
+# Files that no run has now: what a run is given, and what it writes.
+_free: list[tuple[int, int]] = []
+
+
+def _forget() -> None:
+    """Closes them in a copy of this process, which would share their places with it."""
+    while _free:
+        _close(_free.pop())
+
+
+if hasattr(os, "register_at_fork"):
+    os.register_at_fork(after_in_child=_forget)
+
+
+def run(command: list[str], given: bytes, environment: Mapping[str, str]) -> tuple[int, bytes]:
     """The exit code of a command, or less than 0 where a signal has ended it, and what it writes; what it has as its
-    standard input is given."""
-    source, out = _file(), _file()
+    standard input is given. (Of the environment a plain dict serves best: `os.environ` decodes each of its words anew.)
+    """
     try:
-        _write(source, given)
-        os.lseek(source, 0, os.SEEK_SET)
-        process = os.posix_spawn(
-            command[0],
-            command,
-            os.environ,
-            file_actions=[
-                (os.POSIX_SPAWN_DUP2, source, 0),
-                (os.POSIX_SPAWN_DUP2, out, 1),
-                (os.POSIX_SPAWN_OPEN, 2, os.devnull, os.O_WRONLY, 0),
-            ],
-            setsigdef=_AS_EVER,
-        )
-        code = _awaited(process)
-        return code, os.pread(out, os.fstat(out).st_size, 0)
-    finally:
-        os.close(source)
-        os.close(out)
+        files = _free.pop()
+    except IndexError:
+        files = _file(), _file()
+    try:
+        ended = _run(command, given, environment, *files)
+    except BaseException:
+        _close(files)
+        raise
+    _free.append(files)
+    return ended
+
+
+def _run(
+    command: list[str], given: bytes, environment: Mapping[str, str], source: int, out: int
+) -> tuple[int, bytes]:
+    _begin(source)
+    _write(source, given)
+    os.lseek(source, 0, os.SEEK_SET)
+    _begin(out)
+    process = os.posix_spawn(
+        command[0],
+        command,
+        environment,
+        file_actions=[
+            (os.POSIX_SPAWN_DUP2, source, 0),
+            (os.POSIX_SPAWN_DUP2, out, 1),
+            (os.POSIX_SPAWN_OPEN, 2, os.devnull, os.O_WRONLY, 0),
+        ],
+        setsigdef=_AS_EVER,
+    )
+    code = _awaited(process)
+    return code, os.pread(out, os.lseek(out, 0, os.SEEK_END), 0)
 
 
 def _awaited(process: int) -> int:
@@ -55,6 +84,17 @@ def _file() -> int:
 
     with tempfile.TemporaryFile() as it:
         return os.dup(it.fileno())
+
+
+def _begin(file: int) -> None:
+    """Has a file with nothing in it, and at its start."""
+    os.ftruncate(file, 0)
+    os.lseek(file, 0, os.SEEK_SET)
+
+
+def _close(files: tuple[int, int]) -> None:
+    for it in files:
+        os.close(it)
 
 
 def _write(file: int, data: bytes) -> None:

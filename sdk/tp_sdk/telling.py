@@ -76,7 +76,8 @@ class Telling:
     def domain(self, section: Section) -> DomainTold:
         """A domain's section."""
         number = section.number
-        return DomainTold(section, self.known.program(number), self.known.calls_of(number))
+        known = self.known
+        return DomainTold(section, known.program(number), known.calls_of(number), known.there)
 
     def _on_harts(self) -> str:
         """How many slots each hart had, where there are several."""
@@ -112,12 +113,20 @@ class Telling:
 
 
 class DomainTold:
-    """A section, the domain's program where it is known, and the calls that it may make."""
+    """A section, the domain's program where it is known, and the calls that it may make of those that there
+    are."""
 
-    def __init__(self, section: Section, loaded: Loaded | None, calls: frozenset[int] = EVERY_CALL) -> None:
+    def __init__(
+        self,
+        section: Section,
+        loaded: Loaded | None,
+        calls: frozenset[int] = EVERY_CALL,
+        there: frozenset[int] = EVERY_CALL,
+    ) -> None:
         self.section = section
         self.loaded = loaded
         self.calls = calls
+        self.there = there
         self.symbols = loaded.symbols if loaded is not None else Symbols()
 
     # ---- what it came to
@@ -227,7 +236,7 @@ class DomainTold:
 
     def _callers(self, code: int) -> str:
         """The calls that can be refused with a code, in words."""
-        callers = callers_of(code, self.calls)
+        callers = callers_of(code, self.calls, self.there)
         if code == BAD_CALL.code and callers:
             others = [call.name for call in CALLS if call.number in self.calls]
             return f", as all but {in_words(others, 'and')} are" if others else ", as all are"
@@ -305,7 +314,7 @@ class DomainTold:
         }
 
     def _refused_fields(self, code: int) -> dict[str, Any]:
-        calls = callers_of(code, self.calls)
+        calls = callers_of(code, self.calls, self.there)
         return asdict(error_of(code)) | {"calls": calls, "at": self._places_of(code)}
 
 

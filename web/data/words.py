@@ -264,6 +264,10 @@ def of_labels() -> dict[str, str]:
     for word, image in images.items():
         words[f"domain{word}"] = label(("domain", number), image)
         words[f"entry{word}"] = label(("schedule", number), image)
+    domains = [{"name": "{from}"}, {"name": "{to}"}]
+    ends = {"": {}, "_from": {"from": 0}, "_to": {"to": 1}, "_named": {"from": 0, "to": 1}}
+    for word, box in ends.items():
+        words[f"box{word}"] = label(("mail", number), {"domain": domains, "mail": [box]})
     words["key"] = label(("KEY",), {}).replace("KEY", "{key}")
     words["key_of"] = with_holes(label(("domain", number, "KEY"), {}), key="KEY", of=words["domain"])
     in_segment = label(("domain", number, "segment", segment, "KEY"), {})

@@ -53,6 +53,7 @@ const CASES = {
   15: ({ wanted }) => wanted - 1,
   16: ({ wanted }) => wanted - 1,
   19: ({ wanted }) => wanted - 1,
+  20: ({ wanted }) => wanted - 1,
   22: ({ at }) => at - 1,
 };
 
@@ -93,6 +94,7 @@ class OfImage {
       case 17: return ['schedule', at, 'pad'];
       case 18: return ['domain', at, 'calls', found];
       case 19: return this.#ofHart();
+      case 20: return wanted === 1 ? ['mail'] : ['mail', at, this.#endOfBox()];
       case 22: return at === 3 ? ['targets'] : ['muldiv', this.refusals.products[at - 1]];
       default: return [];
     }
@@ -127,6 +129,10 @@ class OfImage {
       const of = this.#entry(number);
       return rest.length ? fill(labels.key_of, { key: keyOf(rest), of }) : of;
     }
+    if (head === 'mail' && Number.isInteger(number)) {
+      const of = this.#box(number);
+      return rest.length ? fill(labels.key_of, { key: keyOf(rest), of }) : of;
+    }
     return path.length ? fill(labels.key, { key: keyOf(path) }) : labels.text;
   }
 
@@ -140,6 +146,26 @@ class OfImage {
     const name = valueAt(this.image, ['domain', valueAt(this.image, ['schedule', number, 'domain']), 'name']);
     const { labels } = this.refusals;
     return typeof name === 'string' ? fill(labels.entry_named, { number, name }) : fill(labels.entry, { number });
+  }
+
+  // A box, and between whom it is, as far as there are such domains.
+  #box(number) {
+    const { labels } = this.refusals;
+    const [from, to] = ENDS_OF_BOX.map((key) => this.#nameOf(valueAt(this.image, ['mail', number, key])));
+    const form = ['box', 'box_from', 'box_to', 'box_named'][(from === null ? 0 : 1) + (to === null ? 0 : 2)];
+    return fill(labels[form], { number, from, to });
+  }
+
+  #nameOf(domain) {
+    const name = Number.isInteger(domain) && domain >= 0 ? valueAt(this.image, ['domain', domain, 'name']) : null;
+    return typeof name === 'string' ? name : null;
+  }
+
+  // Of case 2 the end that is no domain, the sender first; else the receiver.
+  #endOfBox() {
+    const { at, found, wanted } = this.refusal;
+    const isSender = valueAt(this.image, ['mail', at, 'from']) === found;
+    return wanted === 2 && isSender ? 'from' : 'to';
   }
 
   #stands(path) {
@@ -211,6 +237,7 @@ const isTable = (value) => value !== null && typeof value === 'object' && Object
 // There is such a table for each item of an array, or it is the whole; l2 alone is one by itself.
 const isList = (place) => place[0] !== 'l2';
 
+const ENDS_OF_BOX = ['from', 'to'];
 const OF_SEGMENT = ['pages', 'rights', 'hex', 'hex', 'page'];
 
 const ofPart = ({ key, size }) => [size, [key, 'ways'], ['history'], [key, 'policy'], [key, 'ways']];

@@ -53,6 +53,7 @@ runs_alone i r d is =
           (λ c h. r.disjoint.in_range d c (ap (λ (cs : List ℕ). has cs c) own ∙ h))
           (ap (λ (cs : List ℕ). has cs 0) (sym own) ∙ r.disjoint.no_zero d);
       pool = record { few = omega (arith, most); enough = r.pools d is; sound = r.sound d };
+      boxes = r.boxes.few;
     }
 
 pub runs_of : (p : Public) (o : Own) (d : ℕ) → IsOf p o d → RunsAlone (public_for p d) o d

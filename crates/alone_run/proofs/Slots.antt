@@ -1,5 +1,7 @@
 -- A slot of the code's domain alone, and of the definitions.
-use Rattle.std.proofs.Common.{◌≡◌, ℕ, Bool, true, List, refl, sym, ap, subst, subst₂, ◌∙◌}
+use Rattle.mail_slots.specs.Boxes.{Boxes, opening, ends}
+use Rattle.mail_slots.specs.Sides.{bring}
+use Rattle.std.proofs.Common.{[], ap₂, ◌≡◌, ℕ, Bool, true, List, refl, sym, ap, subst, subst₂, ◌∙◌}
 use Rattle.tp_base.specs.Table.{empty}
 use Rattle.phys_mem.specs.Contents.{Contents}
 use Rattle.phys_mem.specs.Holds.{Holds}
@@ -28,7 +30,7 @@ use Rattle.image_check.specs.Own.{Own}
 use Rattle.world_view.specs.Cost.{hierarchy}
 use Rattle.world_view.specs.Kernel.{estate, layout}
 use Rattle.world_view.specs.Opening.{placed}
-use Rattle.world_view.specs.Machine.{setting, Local, enter_part, alone_opening, alone_enter, alone_out, alone}
+use Rattle.world_view.specs.Machine.{setting, Local, enter_part, alone_opening, alone_enter, alone_out, alone_mail, alone}
 use Rattle.domain_open.specs.Placing.{IsOpened}
 use Rattle.domain_step.specs.Moves.{StandsIn}
 use Rattle.domain_step.proofs.Standing.{is_setting, machine_of, domain_of}
@@ -38,14 +40,14 @@ use Rattle.alone_run.proofs.States.{kernel, alone_facts, alone_fresh}
 
 -- the code's parts stand for a state of the domain alone
 abbrev pub Stand : Hardware → Own → Kept → Local → Type 0
-Stand p o k s = StandsIn any_rule any_stands_for (setting p o true) k.memory k.domain k.system k.clock s
+Stand p o k s = StandsIn any_rule any_stands_for (setting p o true) k.memory k.mail k.domain k.system k.clock s
 
 pub stands_of : (p : Hardware) (o : Own) (k : Kept) (s : Local) → Stand p o k s → StandsFor p o s k
 stands_of p o k s is =
     let w = setting p o true in
     record {
-      machine = machine_of w k.memory k.domain k.system k.clock s is;
-      domain = domain_of w k.memory k.domain k.system k.clock s is;
+      machine = machine_of w k.memory k.mail k.domain k.system k.clock s is;
+      domain = domain_of w k.memory k.mail k.domain k.system k.clock s is;
     }
 
 pub facts_of : (p : Hardware) (o : Own) (k : Kept) (s : Local) → Stand p o k s → HasFacts p o s k
@@ -99,14 +101,14 @@ module _ (p : Public) (o : Own) {number : ℕ} (runs : RunsAlone p o number) whe
       }
 
   -- before the first slot
-  pub opened : (d : ℕ) (memory : Contents) (system : SystemContents AnyPolicy) (x : Domain)
-      → memory.frames ≡ p.hardware.frames → Holds memory (placed p.hardware o empty)
+  pub opened : (d : ℕ) (memory : Contents) (mail : Boxes) (system : SystemContents AnyPolicy) (x : Domain)
+      → mail ≡ opening p.mail → memory.frames ≡ p.hardware.frames → Holds memory (placed p.hardware o empty)
       → hierarchy_of any_rule system ≡ hierarchy p.hardware → system.core.pinned ≡ true
       → SystemStands any_stands_for system (cold (hierarchy p.hardware))
       → ((mem : Mem) (frames root : ℕ) → KeepsLeaves mem frames root system.core.tlb) → IsOpened p.hardware o x
-      → Stand p.hardware o (kept memory system x 0) (alone p o d 0)
-  unfolding alone alone_opening
-  opened d memory system x frames holds levels pinned caches no_leaves is = record {
+      → Stand p.hardware o (kept memory mail system x 0) (alone p o d 0)
+  unfolding alone_mail alone_opening
+  opened d memory mail system x boxes frames holds levels pinned caches no_leaves is = record {
     fits = record {
       kernel = kernel p o runs;
       sound = is_setting p.hardware o true (kernel p o runs);
@@ -116,6 +118,7 @@ module _ (p : Public) (o : Own) {number : ℕ} (runs : RunsAlone p o number) whe
     };
     dom = is.stands;
     facts = has_facts d 0 memory x frames holds is.stands is.has;
+    boxes = boxes;
     layout = is.layout;
     leaves = no_leaves (placed p.hardware o empty) memory.frames x.map;
     caches = caches;
@@ -131,8 +134,8 @@ module _ (p : Public) (o : Own) {number : ℕ} (runs : RunsAlone p o number) whe
       → ((mem : Mem) (frames root : ℕ) → KeepsLeaves mem frames root empty.core.tlb)
       → MakesTouches any_rule any_stands_for (enter l) e empty entered → entered.core.tlb ≡ empty.core.tlb
       → now ≡ start p.schedule k
-      → Stand p.hardware o (kept c.memory entered c.domain now) (alone_enter p o k (alone p o d k))
-  unfolding alone_enter enter_part
+      → Stand p.hardware o (kept c.memory c.mail entered c.domain now) (alone_enter p o k [] (alone p o d k))
+  unfolding alone_enter enter_part bring
   begun d k c l empty entered e now is clone empties no_leaves enters buffer time =
       let h = hierarchy p.hardware in
       let s = alone p o d k in
@@ -156,6 +159,7 @@ module _ (p : Public) (o : Own) {number : ℕ} (runs : RunsAlone p o number) whe
         };
         dom = is.domain.dom;
         facts = has_facts d k c.memory c.domain m.frames m.holds is.domain.dom is.domain.has;
+        boxes = m.boxes;
         layout = is.domain.layout;
         leaves =
             subst (KeepsLeaves s.storage.mem c.memory.frames c.domain.map) (sym buffer)
@@ -167,15 +171,15 @@ module _ (p : Public) (o : Own) {number : ℕ} (runs : RunsAlone p o number) whe
         time = time;
       }
 
--- the domain has left, and its dirty lines are written back
-pub left : (p : Hardware) (o : Own) (c : Kept) (l : Layout) (gone new : SystemContents AnyPolicy) (n f : ℕ)
-    (s : Local) → Stand p o c s
+-- the domain has left, its dirty lines are written back, and what it put into boxes went off
+pub left : (p : Hardware) (o : Own) (c : Kept) (l : Layout) (gone new : SystemContents AnyPolicy) (n f : ℕ) (mail : Boxes)
+    (s : Local) → mail ≡ ends c.domain.number c.mail → Stand p o c s
     → l ≡ layout p o → MakesTouches any_rule any_stands_for (leave c.system.core.costs l) n c.system gone
     → MakesTouch any_rule any_stands_for Flush f gone new
     → ((mem : Mem) (frames root : ℕ) → KeepsLeaves mem frames root new.core.tlb)
-    → Stand p o (kept c.memory new c.domain c.clock) (alone_out p o s)
-unfolding alone_out hierarchy
-left p o c l gone new n f s is clone leaves flushes no_leaves =
+    → Stand p o (kept c.memory mail new c.domain c.clock) (alone_out p o s)
+unfolding alone_out hierarchy estate
+left p o c l gone new n f mail s went is clone leaves flushes no_leaves =
     let h = hierarchy p in
     let out : MakesTouches any_rule any_stands_for (leave p.costs (layout p o)) n c.system gone =
     subst₂ (λ (t : CostTable) (x : Layout). MakesTouches any_rule any_stands_for (leave t x) n c.system gone)
@@ -191,6 +195,7 @@ left p o c l gone new n f s is clone leaves flushes no_leaves =
       };
       dom = is.dom;
       facts = is.facts;
+      boxes = went ∙ ap₂ ends is.facts.has.number is.boxes;
       layout = is.layout;
       leaves = no_leaves s.storage.mem c.memory.frames c.domain.map;
       caches =

@@ -37,3 +37,4 @@ pub record RunsAlone (p : Public) (o : Own) (d : ℕ) : Type 0 where
       → bound_of (shape_for p.hardware o.calls) ≤ (entry_in p.schedule e).pad
   pub colours : AreDisjoint (colours_of p.hardware) (o.colours ∷ [])
   pub pool : HasPool p.hardware o
+  pub boxes : length p.mail ≤ 64

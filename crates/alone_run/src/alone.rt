@@ -17,6 +17,7 @@ use frame_colours::{AllColours, ColourShare};
 use image_check::{Hardware, Own, Public};
 use kernel_call::Domain;
 use l2_colour::L2;
+use mail_slots::Mail;
 use mem_system::OnCore;
 use phys_mem::PhysMem;
 use repl_policy::AnyPolicy;
@@ -43,19 +44,21 @@ pub struct Alone<'a> {
     core: OnCore<AnyPolicy>,
     l2: L2<AnyPolicy>,
     domain: Domain,
+    /// The boxes, in which nothing comes to it.
+    mail: Mail,
     /// In cycles, as its last slot ended.
     clock: u64,
     ghost on_hart: { entries_alone schedule.now ≡ (public_for (public_model public.now) number).schedule },
     ghost runs: { RunsAlone (public_for (public_model public.now) number) (own_model own.now) number },
     ghost stands: { StandsFor (hardware_model public.now.hardware) (own_model own.now)
         (alone_after (public_model public.now) (own_model own.now) number slots)
-        (kept memory (system core l2) domain clock) } by { stands_prop (hardware_model public.now.hardware)
+        (kept memory mail (system core l2) domain clock) } by { stands_prop (hardware_model public.now.hardware)
             (own_model own.now) (alone_after (public_model public.now) (own_model own.now) number slots)
-            (kept memory (system core l2) domain clock) },
+            (kept memory mail (system core l2) domain clock) },
     ghost facts: { ∥ HasFacts (hardware_model public.now.hardware) (own_model own.now)
         (alone_after (public_model public.now) (own_model own.now) number slots)
-        (kept memory (system core l2) domain clock) ∥₁ },
-    ghost in_bounds: { IsInBounds slots (kept memory (system core l2) domain clock) },
+        (kept memory mail (system core l2) domain clock) ∥₁ },
+    ghost in_bounds: { IsInBounds slots (kept memory mail (system core l2) domain clock) },
 }
 
 // The frames of the domain's colours.

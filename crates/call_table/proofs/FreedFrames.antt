@@ -1,17 +1,16 @@
 -- A frame that the last capability of it named is free again.
-use Rattle.std.proofs.Common.{◌≡◌, ◌⊎◌, ◌≢◌, ◌∙◌, ℕ, ◌+◌, ◌-◌, ◌<◌, ◌&&◌, Bool, true, false, true≢false, not, nat_eq, eqb-true, length, Option, Some, None, refl, sym, ap, ap₂, subst, arith, inl, inr}
+use Rattle.std.proofs.Common.{◌≡◌, ◌⊎◌, ◌≢◌, ◌∙◌, ℕ, ◌+◌, ◌-◌, ◌<◌, ◌&&◌, Bool, true, false, true≢false, not, nat_eq, eqb-true, length, Option, Some, None, refl, sym, ap, ap₂, arith, inl, inr}
 use Rattle.std.specs.Prelude.{slice_index_or}
 use Rattle.std.proofs.lemmas.Bool.{cases_eq, cases_lt}
 use Rattle.std.proofs.lemmas.List.{get_or_past}
 use Rattle.std.proofs.lemmas.Map.Views.{any-filter_same}
 use Rattle.tp_base.specs.Act.{either}
-use Rattle.frame_colours.specs.Colours.{has, pool}
+use Rattle.frame_colours.specs.Colours.{pool}
 use Rattle.frame_colours.proofs.Pools.{pool_has}
 use Rattle.cap_table.specs.Slots.{Slots, cap_at}
 use Rattle.cap_table.specs.declared.Cap.{Cap}
 use Rattle.call_table.specs.Domain.{Dom}
-use Rattle.call_table.specs.Claims.{Claim, Estate, IsEstate, is_shared, frame_of, claim_of, claims, is_named, free_frames}
-use Rattle.call_table.specs.Laws.{Kept}
+use Rattle.call_table.specs.Claims.{Claim, Estate, is_shared, frame_of, claim_of, claims, is_named, free_frames}
 use Rattle.call_table.specs.Entries.{FreedLaw}
 use Rattle.call_table.proofs.ClaimLawsSlots.{claims_at, claims_fixed, named_by}
 use Rattle.call_table.proofs.TablesMeaning.{mine_is_own}

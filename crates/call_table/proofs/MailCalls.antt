@@ -186,6 +186,31 @@ module _ (e : Estate) (d : Dom) where
         subst P (sym (on_mem no_send no_receive s)) (on_memory_too (rw (no_send, no_receive) refl))
   ]
 
+-- what holds of the domain and of memory after a refusal, after a call on mailboxes that is done, and after one on memory, holds after
+-- the call that is made
+module _ (e : Estate) (d : Dom) (P : Dom → Mem → Type 0) (s : Storage) (refuses : (code : ℕ) → P (refused code d) s.mem)
+    (dones : (value : ℕ) → P (done value d) s.mem) where
+  -- of what a call leaves behind
+  abbrev LeavesSo : Left → Type 0
+  LeavesSo r = P (either r.value) r.state.mem
+
+  sent_so : (o : Result Boxes MailRefusal) → LeavesSo (on_boxes s (has_sent d s.boxes o))
+  unfolding either
+  sent_so (Ok later) = dones 0
+  sent_so (Err r) = refuses (mail_error r)
+
+  received_so : (o : Result Received MailRefusal) → LeavesSo (on_boxes s (has_received d s.boxes o))
+  unfolding either
+  received_so (Ok r) = dones r.word
+  received_so (Err r) = refuses (mail_error r)
+
+  pub after_called : P (either (call e d s.mem).value) (call e d s.mem).state → LeavesSo (called e d s)
+  after_called on_mem_too = elim (kind_of (number_made e d)) [
+    | Kind.Sends is ↦ subst LeavesSo (sym (sends e d is s)) (sent_so _)
+    | Kind.Receives is ↦ subst LeavesSo (sym (receives e d is s)) (received_so _)
+    | Kind.Others no_send no_receive ↦ subst LeavesSo (sym (on_mem e d no_send no_receive s)) on_mem_too
+  ]
+
 pub on_memory_law : OnMemoryLaw
 on_memory_law e d s none =
     by_kind e d (λ (r : Left). r ≡ on_memory s (call e d s.mem)) s (λ some r is. absurd (true≢false (sym some ∙ none)))

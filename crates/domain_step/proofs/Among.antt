@@ -23,6 +23,7 @@ use Rattle.mem_system.specs.Operations.{operation, plain}
 use Rattle.call_table.specs.Domain.{Dom, is_running, delivered_on}
 use Rattle.call_table.specs.declared.DomainStatus.TheVariants.{Running}
 use Rattle.image_check.specs.Image.{Image, own_of}
+use Rattle.mail_slots.specs.Boxes.{Boxes}
 use Rattle.kernel_call.specs.declared.domain.Domain.{Domain}
 use Rattle.kernel_call.specs.Models.{Stands, Becomes}
 use Rattle.kernel_call.specs.Threads.{KeepsAtDelivery}
@@ -42,9 +43,9 @@ use Rattle.domain_step.proofs.Elements.{each_set}
 use Rattle.domain_step.proofs.InSlot.{all_both, after_own}
 use Rattle.domain_step.proofs.Moments.{among_is}
 
-module _ (off : Option Guard) (i : Image) (d : ℕ) (w : World) (memory : Contents)
+module _ (off : Option Guard) (i : Image) (d : ℕ) (w : World) (memory : Contents) (mail : Boxes)
     (system : SystemContents AnyPolicy)
-    (domains : List Domain) (now : ℕ) (is : StandsIn off i d w memory system domains now) where
+    (domains : List Domain) (now : ℕ) (is : StandsIn off i d w memory mail system domains now) where
   abbrev g : Guards
   g = guards_of off i
 
@@ -93,20 +94,20 @@ module _ (off : Option Guard) (i : Image) (d : ℕ) (w : World) (memory : Conten
       own_if (is_running (dom_of w d).status) (first_due i 0 w i.all.domains) end refl refl
       (λ runs. sym first_there ∙ none (sym (runs_there x got) ∙ runs))
 
-  pub own_stands : (end : ℕ) (x y : Domain) (memory' : Contents) (system' : SystemContents AnyPolicy)
+  pub own_stands : (end : ℕ) (x y : Domain) (memory' : Contents) (mail' : Boxes) (system' : SystemContents AnyPolicy)
       (later : ℕ)
       → slice_get domains d ≡ Some x
       → (is_running x.status ≡ true → first_among now domains (length domains) ≡ None)
-      → moves.StandsIn any_rule any_stands_for (setting_by g i d) memory' y system' later
+      → moves.StandsIn any_rule any_stands_for (setting_by g i d) memory' mail' y system' later
       (step (setting_by g i d) end begun)
-      → StandsIn off i d (step_among g i 0 d end w) memory' system' (set domains d y) later
-  own_stands end x y memory' system' later got none over =
+      → StandsIn off i d (step_among g i 0 d end w) memory' mail' system' (set domains d y) later
+  own_stands end x y memory' mail' system' later got none over =
       let s = step (setting_by g i d) end begun in
       let to = own_event end x got none in
       let both = subst (AllBoth i r) to
-      (among_keeps i r g d end w is.domain (all_both off i d w memory system domains now is)) in
-      subst (λ (v : World). StandsIn off i d v memory' system' (set domains d y) later) (sym to)
-      (after_own off i d w memory system domains now is s x y memory' system' later got both over)
+      (among_keeps i r g d end w is.domain (all_both off i d w memory mail system domains now is)) in
+      subst (λ (v : World). StandsIn off i d v memory' mail' system' (set domains d y) later) (sym to)
+      (after_own off i d w memory mail system domains now is s x y memory' mail' system' later got both over)
 
   -- ---- a delivery, to any domain
 
@@ -146,7 +147,7 @@ module _ (off : Option Guard) (i : Image) (d : ℕ) (w : World) (memory : Conten
       → MakesTouches any_rule any_stands_for (operation system.core.costs (layout_model x.layout) work)
       cycles system system'
       → system'.core.tlb ≡ system.core.tlb → later ≡ now + cycles
-      → StandsIn off i d (step_among g i 0 d end w) memory system' (set domains o.owner z) later
+      → StandsIn off i d (step_among g i 0 d end w) memory mail system' (set domains o.owner z) later
   unfolding with_part with_hart at put delivered
   due_stands end x y z o work system' cycles later got runs of_owner first becomes keeps work_is made
       buffer time =
@@ -154,7 +155,7 @@ module _ (off : Option Guard) (i : Image) (d : ℕ) (w : World) (memory : Conten
       let to = delivery end x o got runs first in
       let s = delivered (setting_by g i d) o.moment.line (part_of 0 o.owner w) in
       let both = subst (AllBoth i r) to
-      (among_keeps i r g d end w is.domain (all_both off i d w memory system domains now is)) in
+      (among_keeps i r g d end w is.domain (all_both off i d w memory mail system domains now is)) in
       let ts = delivery_touches p (g.clone d) in
       let makes : MakesTouches any_rule any_stands_for ts cycles system system' =
       subst (λ (us : List Touch). MakesTouches any_rule any_stands_for us cycles system system')
@@ -178,13 +179,14 @@ module _ (off : Option Guard) (i : Image) (d : ℕ) (w : World) (memory : Conten
         layout = ap (λ (c : CloneLayout). layout_model c) keeps.layout ∙ was.layout;
         moments = keeps.moments ∙ was.moments;
       } in
-      subst (λ (v : World). StandsIn off i d v memory system' (set domains o.owner z) later) (sym to)
+      subst (λ (v : World). StandsIn off i d v memory mail system' (set domains o.owner z) later) (sym to)
       (record {
         runnable = is.runnable;
         domain = is.domain;
         machine = record {
           frames = is.machine.frames;
           holds = is.machine.holds;
+          boxes = is.machine.boxes;
           levels = is.machine.levels ∙ sym makes.same;
           pinned = makes.pinned ∙ is.machine.pinned;
           caches = steps.next;

@@ -19,13 +19,17 @@ use Rattle.mem_system.proofs.Touches.{makes_one, makes_then}
 use Rattle.mem_system.specs.Operations.{operation}
 use Rattle.call_table.specs.declared.Reply.{Reply}
 use Rattle.call_table.specs.Domain.{Dom}
-use Rattle.call_table.specs.Calls.{Note, empties, work_of, call, number_made}
+use Rattle.call_table.specs.Calls.{Note, empties, work_of, number_made}
+use Rattle.call_table.specs.Mail.{called}
+use Rattle.call_table.specs.Claims.{Estate}
 use Rattle.call_table.specs.Laws.{Kept as HasClaims}
-use Rattle.call_table.proofs.WalksStay.{walks_stay}
+use Rattle.call_table.proofs.MailCalls.{storage_walks}
+use Rattle.mail_slots.specs.Boxes.{Boxes}
 use Rattle.kernel_call.specs.declared.domain.Domain.{Domain}
 use Rattle.kernel_call.specs.declared.outcome.Outcome.{Outcome}
 use Rattle.kernel_call.specs.Models.{dom_model}
-use Rattle.kernel_call.specs.Calls.{IsCalled, KeepsParts}
+use Rattle.kernel_call.specs.Calls.{KeepsParts}
+use Rattle.kernel_call.specs.Mailboxes.{HasCalled}
 use Rattle.world_view.specs.Kernel.{estate}
 use Rattle.world_view.specs.Event.{Storage, call_touches, make_call}
 use Rattle.world_view.specs.Machine.{Setting}
@@ -37,16 +41,25 @@ append_none : (ts : List Touch) → ts ++ [] ≡ ts
 append_none [] = refl
 append_none (t ∷ ts) = ap (λ (us : List Touch). t ∷ us) (append_none ts)
 
+-- a call with the code's boxes is one with those of the storage
+pub with_boxes : (e : Estate) (d : Dom) (memory : Contents) (mail mail' : Boxes) (new : Domain) (number before : ℕ)
+    (outcome : Outcome) (s : Storage) → mail ≡ s.boxes
+    → HasCalled e memory mail' new number before outcome (called e d (record { mem = s.mem; boxes = mail }))
+    → HasCalled e memory mail' new number before outcome (called e d s)
+with_boxes e d memory mail mail' new number before outcome s same has =
+    subst (λ (b : Boxes). HasCalled e memory mail' new number before outcome
+    (called e d (record { mem = s.mem; boxes = b }))) same has
+
 module _ {P : Type 0} (rule : P → ℕ → Rule) (stands : P → ℕ → ℕ → List ℕ → Type 0) (w : Setting)
-    (old new : Domain) (memory memory' : Contents) (system : SystemContents P) (spent : ℕ)
+    (old new : Domain) (memory memory' : Contents) (mail mail' : Boxes) (system : SystemContents P) (spent : ℕ)
     (readings : List ℕ) (replies : List Reply) (outcome : Outcome) (s : Storage) (r : Touched)
-    (k : KeptOf rule stands w old memory system spent s r)
-    (called : IsCalled (estate w.machine w.own) memory' new
+    (k : KeptOf rule stands w old memory mail system spent s r)
+    (has : HasCalled (estate w.machine w.own) memory' mail' new
     (number_made (estate w.machine w.own) (dom_model old readings replies)) (length replies) outcome
-    (call (estate w.machine w.own) (dom_model old readings replies) s.mem))
+    (called (estate w.machine w.own) (dom_model old readings replies) s))
     (keeps : KeepsParts old new) (frames : memory'.frames ≡ memory.frames) where
-  abbrev done : act.Done Mem Note Dom Dom
-  done = call (estate w.machine w.own) (dom_model old readings replies) s.mem
+  abbrev done : act.Done Storage Note Dom Dom
+  done = called (estate w.machine w.own) (dom_model old readings replies) s
 
   abbrev touches : List Touch
   touches = call_touches w.machine w.clone (number_made (estate w.machine w.own) (dom_model old readings replies)) done.notes
@@ -65,14 +78,14 @@ module _ {P : Type 0} (rule : P → ℕ → Rule) (stands : P → ℕ → ℕ �
   same_operation =
       ap (λ (c : CostTable). operation c (layout_model new.layout) (work_model outcome.work)) (sym (same_costs rule w memory system k.fits))
       ∙ ap (λ (l : Layout). operation w.machine.costs l (work_model outcome.work)) same_layout
-      ∙ ap (λ (x : WorkDone). operation w.machine.costs w.clone x) called.work
+      ∙ ap (λ (x : WorkDone). operation w.machine.costs w.clone x) has.work
 
   -- what the code keeps after all its touches
   called_kept : (last : SystemContents P) (spent' cycles : ℕ)
       → MakesTouches rule stands touches cycles system last → spent' ≡ spent + cycles
-      → KeepsLeaves done.state memory'.frames new.map last.core.tlb
+      → KeepsLeaves done.state.mem memory'.frames new.map last.core.tlb
       → Yields w (make_call w.machine (estate w.machine w.own) w.clone (dom_model old readings replies)) s r
-      (Left new (KeptOf rule stands w new memory' last spent'))
+      (Left new (KeptOf rule stands w new memory' mail' last spent'))
   unfolding make_call either
   called_kept last spent' cycles makes more leaves =
       let paid =
@@ -81,7 +94,7 @@ module _ {P : Type 0} (rule : P → ℕ → Rule) (stands : P → ℕ → ℕ �
       let fits = fits_still rule stands w memory system last touches cycles makes k.fits in
       record {
         met = record {
-          dom = called.dom;
+          dom = has.dom;
           kept = record {
             fits = record {
               kernel = fits.kernel;
@@ -90,7 +103,8 @@ module _ {P : Type 0} (rule : P → ℕ → Rule) (stands : P → ℕ → ℕ �
               levels = fits.levels;
               pinned = fits.pinned;
             };
-            facts = called.facts;
+            facts = has.facts;
+            boxes = has.mail;
             layout = same_layout;
             leaves = leaves;
             cost = paid.cost;
@@ -100,31 +114,32 @@ module _ {P : Type 0} (rule : P → ℕ → Rule) (stands : P → ℕ → ℕ �
       }
 
   -- where the buffer isn't emptied, each kept leaf is still its walk's
-  leaves_still : empties done.notes ≡ false → KeepsLeaves done.state memory'.frames new.map system.core.tlb
+  leaves_still : empties done.notes ≡ false → KeepsLeaves done.state.mem memory'.frames new.map system.core.tlb
   leaves_still still =
       let e = estate w.machine w.own in
       let facts : HasClaims e (dom_model old readings replies) s.mem = record { slots = k.facts.has.slots; facts = k.facts.facts } in
-      let stays = walks_stay e (dom_model old readings replies) s.mem facts still in
+      let stays = storage_walks e (dom_model old readings replies) s facts still in
       let top : old.map ≡ e.root = k.facts.has.root in
       let all : memory.frames ≡ e.share.frames = sym k.facts.frames in
       let before : KeepsLeaves s.mem e.share.frames e.root system.core.tlb =
       subst (λ (n : ℕ). KeepsLeaves s.mem e.share.frames n system.core.tlb) top
       (subst (λ (n : ℕ). KeepsLeaves s.mem n old.map system.core.tlb) all k.leaves) in
-      let after : KeepsLeaves done.state e.share.frames e.root system.core.tlb =
-      keeps_by s.mem done.state e.share.frames e.root system.core.tlb (λ at leaf a small is. stays.each at leaf a is) before in
-      subst (λ (n : ℕ). KeepsLeaves done.state memory'.frames n system.core.tlb) (sym called.facts.has.root)
-      (subst (λ (n : ℕ). KeepsLeaves done.state n e.root system.core.tlb) called.facts.frames after)
+      let after : KeepsLeaves done.state.mem e.share.frames e.root system.core.tlb =
+      keeps_by s.mem done.state.mem e.share.frames e.root system.core.tlb
+      (λ at leaf a small is. stays.each at leaf a is) before in
+      subst (λ (n : ℕ). KeepsLeaves done.state.mem memory'.frames n system.core.tlb) (sym has.facts.has.root)
+      (subst (λ (n : ℕ). KeepsLeaves done.state.mem n e.root system.core.tlb) has.facts.frames after)
 
   module _ (mid : SystemContents P) (spent' cycles : ℕ)
       (makes : MakesTouches rule stands ours cycles system mid) (more : spent' ≡ spent + cycles) where
     pub called_still : mid.core.tlb ≡ system.core.tlb → empties done.notes ≡ false
         → Yields w (make_call w.machine (estate w.machine w.own) w.clone (dom_model old readings replies)) s r
-        (Left new (KeptOf rule stands w new memory' mid spent'))
+        (Left new (KeptOf rule stands w new memory' mail' mid spent'))
     unfolding call_touches
     called_still buffer still =
         let all : touches ≡ theirs = ap (λ (b : Bool). theirs ++ (if b then EmptyTlb ∷ [] else [])) still ∙ append_none theirs in
-        let leaves : KeepsLeaves done.state memory'.frames new.map mid.core.tlb =
-        subst (λ (b : Buffer P). KeepsLeaves done.state memory'.frames new.map b) (sym buffer) (leaves_still still) in
+        let leaves : KeepsLeaves done.state.mem memory'.frames new.map mid.core.tlb =
+        subst (λ (b : Buffer P). KeepsLeaves done.state.mem memory'.frames new.map b) (sym buffer) (leaves_still still) in
         called_kept mid spent' cycles
         (subst (λ (ts : List Touch). MakesTouches rule stands ts cycles system mid)
         (same_operation ∙ sym all) makes) more leaves
@@ -132,7 +147,7 @@ module _ {P : Type 0} (rule : P → ℕ → Rule) (stands : P → ℕ → ℕ �
     pub called_emptied : (last : SystemContents P) → MakesTouch rule stands EmptyTlb 0 mid last
         → ((m : Mem) (n root : ℕ) → KeepsLeaves m n root last.core.tlb) → empties done.notes ≡ true
         → Yields w (make_call w.machine (estate w.machine w.own) w.clone (dom_model old readings replies)) s r
-        (Left new (KeptOf rule stands w new memory' last spent'))
+        (Left new (KeptOf rule stands w new memory' mail' last spent'))
     unfolding call_touches
     called_emptied last empty none emptied =
         let all : touches ≡ theirs ++ (EmptyTlb ∷ []) = ap (λ (b : Bool). theirs ++ (if b then EmptyTlb ∷ [] else [])) emptied in
@@ -141,4 +156,4 @@ module _ {P : Type 0} (rule : P → ℕ → Rule) (stands : P → ℕ → ℕ �
         called_kept last spent' (cycles + 0)
         (subst (λ (ts : List Touch). MakesTouches rule stands ts (cycles + 0) system last)
         (ap (λ (ts : List Touch). ts ++ (EmptyTlb ∷ [])) same_operation ∙ sym all) both)
-        (omega (arith, more)) (none done.state memory'.frames new.map)
+        (omega (arith, more)) (none done.state.mem memory'.frames new.map)

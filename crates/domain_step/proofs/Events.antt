@@ -13,7 +13,7 @@ use Rattle.world_view.specs.Kernel.{estate}
 use Rattle.world_view.specs.Event.{Storage, Act}
 use Rattle.domain_step.specs.Stands.{KeepsFrames}
 use Rattle.domain_step.specs.Moves.{Left}
-use Rattle.domain_step.proofs.Points.{Point, Side, YieldsAt, KeptWhole, KeptParts}
+use Rattle.domain_step.proofs.Points.{Point, Side, YieldsAt, KeptWhole, KeptParts, Boxed}
 
 -- frames that are used as they were still are the domain's
 pub has_still : (e : Estate) (old new : Domain) → Has e old → new.caps ≡ old.caps
@@ -60,9 +60,13 @@ module _ {P : Type 0} (rule : P → ℕ → Rule) (stands : P → ℕ → ℕ �
 
   module _ (new : Side P) (keeps : KeepsFrames old.domain new.domain)
       (frames : new.memory.frames ≡ old.memory.frames) where
-    pub kept_whole : (t : Storage) (q : Touched) → KeptParts rule stands p old.domain.caps new t q
-        → KeptWhole rule stands p new t q
-    kept_whole t q n =
+    -- with the boxes
+    abbrev KeptBoxed : Storage → Touched → Type 0
+    KeptBoxed = Boxed new.mail (KeptParts rule stands p old.domain.caps new)
+
+    pub kept_whole : (t : Storage) (q : Touched) → KeptBoxed t q → KeptWhole rule stands p new t q
+    kept_whole t q m =
+        let n = m.kept in
         let e = estate p.setting.machine p.setting.own in
         record {
           fits = n.fits;
@@ -75,6 +79,7 @@ module _ {P : Type 0} (rule : P → ℕ → Rule) (stands : P → ℕ → ℕ �
                 subst (λ (caps : Slots). Facts e.root (is_mine e) (claims e caps) t.mem)
                 (sym keeps.caps) n.facts;
           };
+          boxes = m.boxes;
           layout = ap layout_model keeps.layout ∙ k.layout;
           leaves =
               subst (λ (n : ℕ). KeepsLeaves t.mem new.memory.frames n new.system.core.tlb)
@@ -85,7 +90,7 @@ module _ {P : Type 0} (rule : P → ℕ → Rule) (stands : P → ℕ → ℕ �
 
     -- an instruction that is no kernel call keeps them
     pub left_whole : (x : Act Dom)
-        → YieldsAt p x (Left new.domain (KeptParts rule stands p old.domain.caps new))
+        → YieldsAt p x (Left new.domain KeptBoxed)
         → YieldsAt p x (Left new.domain (KeptWhole rule stands p new))
     left_whole x left =
         record { met = record { dom = left.met.dom; kept = kept_whole _ _ left.met.kept } }

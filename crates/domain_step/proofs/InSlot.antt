@@ -1,5 +1,5 @@
 -- A slot within the whole machine, of the code and of the definitions: its domain by itself.
-use Rattle.std.proofs.Common.{◌≡◌, ℕ, ◌-◌, List, Option, Some, ap, sym, subst, ◌∙◌}
+use Rattle.std.proofs.Common.{◌≡◌, ℕ, List, Option, Some, ap, sym, subst, ◌∙◌}
 use Rattle.std.specs.Prelude.{slice_get}
 use Rattle.std.proofs.Math.ListN.{set}
 use Rattle.std.proofs.lemmas.List.{length-set}
@@ -15,15 +15,16 @@ use Rattle.cap_table.specs.Slots.{Slots}
 use Rattle.call_table.specs.Domain.{Dom}
 use Rattle.call_table.specs.Claims.{is_mine, claims, Facts}
 use Rattle.image_check.specs.Image.{Image, own_of}
+use Rattle.mail_slots.specs.Boxes.{Boxes}
 use Rattle.kernel_call.specs.declared.domain.Domain.{Domain}
 use Rattle.kernel_call.specs.Facts.{HasFacts}
 use Rattle.world_view.specs.Kernel.{estate, no_dom}
-use Rattle.world_view.specs.Machine.{Guards, World, Local, clock_of, dom_of, part_of, with_part, with_hart, guards_of, setting_by, stretch, own_slot}
+use Rattle.world_view.specs.Machine.{Guards, World, Local, dom_of, part_of, with_part, with_hart, guards_of, setting_by}
 use Rattle.world_view.specs.Relations.{IsDomain}
 use Rattle.world_view.proofs.opening.Separate.{Separated, separated}
 use Rattle.world_view.proofs.opening.OpeningFacts.{kernel_of}
 use Rattle.world_view.proofs.actions.TableLaws.{root_is}
-use Rattle.world_view.proofs.facts.FactsLaws.{AllBoth, own_keeps}
+use Rattle.world_view.proofs.facts.FactsLaws.{AllBoth}
 use Rattle.world_view.proofs.runs.GuardLaws.{are_guards}
 use Rattle.domain_step.specs.Kept.{IsSetting}
 use Rattle.domain_step.specs.Moves as moves
@@ -32,9 +33,9 @@ use Rattle.domain_step.proofs.Standing.{stands_in, machine_of, domain_of}
 use Rattle.domain_step.specs.InSlot.{StandsIn}
 use Rattle.domain_step.proofs.Elements.{each_set}
 
-module _ (off : Option Guard) (i : Image) (d : ℕ) (w : World) (memory : Contents)
+module _ (off : Option Guard) (i : Image) (d : ℕ) (w : World) (memory : Contents) (mail : Boxes)
     (system : SystemContents AnyPolicy)
-    (domains : List Domain) (now : ℕ) (is : StandsIn off i d w memory system domains now) where
+    (domains : List Domain) (now : ℕ) (is : StandsIn off i d w memory mail system domains now) where
   abbrev g : Guards
   g = guards_of off i
 
@@ -76,39 +77,39 @@ module _ (off : Option Guard) (i : Image) (d : ℕ) (w : World) (memory : Conten
   begun = part_of 0 d w
 
   pub in_slot : (x : Domain) → slice_get domains d ≡ Some x
-      → moves.StandsIn any_rule any_stands_for (setting_by g i d) memory x system now begun
+      → moves.StandsIn any_rule any_stands_for (setting_by g i d) memory mail x system now begun
   in_slot x got =
       let p = i.all.hardware in
       let o = own_of i d in
       let has = (is.each_domain d x got).has in
-      stands_in (setting_by g i d) memory x system now begun (kernel_of i r d is.domain)
+      stands_in (setting_by g i d) memory mail x system now begun (kernel_of i r d is.domain)
       (sound d is.domain) is.machine
       (is.each_domain d x got) (facts_of d x is.domain got)
       (subst (λ (root : ℕ). KeepsLeaves w.storage.mem memory.frames root system.core.tlb)
       (sym (has.root ∙ root_is p o)) is.leaves)
 
   -- after steps of its own
-  pub after_own : (s : Local) (x y : Domain) (memory' : Contents) (system' : SystemContents AnyPolicy)
+  pub after_own : (s : Local) (x y : Domain) (memory' : Contents) (mail' : Boxes) (system' : SystemContents AnyPolicy)
       (later : ℕ)
       → slice_get domains d ≡ Some x → AllBoth i r (with_part 0 d w s)
-      → moves.StandsIn any_rule any_stands_for (setting_by g i d) memory' y system' later s
-      → StandsIn off i d (with_part 0 d w s) memory' system' (set domains d y) later
+      → moves.StandsIn any_rule any_stands_for (setting_by g i d) memory' mail' y system' later s
+      → StandsIn off i d (with_part 0 d w s) memory' mail' system' (set domains d y) later
   unfolding with_part with_hart at put
-  after_own s x y memory' system' later got both over =
+  after_own s x y memory' mail' system' later got both over =
       let p = i.all.hardware in
       let o = own_of i d in
       let within = slice_get_within domains d x got in
       record {
         runnable = is.runnable;
         domain = is.domain;
-        machine = machine_of (setting_by g i d) memory' y system' later s over;
+        machine = machine_of (setting_by g i d) memory' mail' y system' later s over;
         all_domains = length-set domains d y ∙ is.all_domains;
         each_domain =
             each_set (λ j z. DomainStands (setting_by g i j) z (dom_of w j))
             (λ j z. DomainStands (setting_by g i j) z (dom_of (with_part 0 d w s) j))
             domains d y within
             (subst (DomainStands (setting_by g i d) y) (sym (at-put_same no_dom w.doms d s.dom))
-            (domain_of (setting_by g i d) memory' y system' later s over))
+            (domain_of (setting_by g i d) memory' mail' y system' later s over))
             (λ j z apart. subst (DomainStands (setting_by g i j) z)
             (sym (at-put_other no_dom w.doms d j s.dom apart)))
             is.each_domain;

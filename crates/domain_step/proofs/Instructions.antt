@@ -35,17 +35,19 @@ use Rattle.mem_system.specs.Hierarchy.{Hierarchy}
 use Rattle.mem_system.specs.Translation.{KeepsLeaves}
 use Rattle.thread_set.specs.Threads.{with_current}
 use Rattle.call_table.specs.Domain.{Dom, placed}
+use Rattle.mail_slots.specs.Boxes.{Boxes}
 use Rattle.kernel_call.specs.declared.domain.Domain.{Domain}
 use Rattle.kernel_call.specs.Models.{dom_model, Stands, Becomes}
 use Rattle.world_view.specs.Kernel.{estate}
 use Rattle.world_view.specs.Instruction.{counter_value, trapped, stopped, retired_at, read_out}
 use Rattle.world_view.specs.Event.{Storage, Act, touch, load, translate, place, line_in, read, store, computed, loaded, noted, guessed, settle, execute, timed, make_call, perform, instruction}
+use Rattle.world_view.proofs.actions.InstructionLaws.{timed_boxes}
 use Rattle.world_view.proofs.steps.CodeLaws.{noted-other, loaded-other, guessed-other, timed-other, perform-other}
 use Rattle.world_view.specs.Machine.{Setting}
 use Rattle.domain_step.specs.Kept.{IsSetting, charged, Kept}
 use Rattle.domain_step.specs.Moves.{Yields, Answered, Left}
 use Rattle.domain_step.proofs.Charges.{touch_kept}
-use Rattle.domain_step.proofs.Points.{Point, YieldsAt, YieldsFrom}
+use Rattle.domain_step.proofs.Points.{Point, YieldsAt, YieldsFrom, Boxed}
 use Rattle.domain_step.proofs.Yields.{yields_rules, y_next, y_found, y_faults, y_touch, y_give, y_stop, becomes_then}
 use Rattle.domain_step.proofs.Accesses.{line_kept}
 
@@ -403,11 +405,27 @@ LooksUp p root result K =
     YieldsAt p (translate p.setting.machine root p.dom access.Fetch p.dom.threads.current.pc)
     (Answered {A = ℕ} p.dom result K)
 
--- the fetch of a word in the code: where it was found, the line of that address, the hierarchy before and
+-- a look-up leaves the boxes
+looks_boxed : (p : Point) (root : ℕ) (result : Result ℕ Trap) (K : Storage → Touched → Type 0) (mail : Boxes)
+    → mail ≡ p.storage.boxes → LooksUp p root result K → LooksUp p root result (Boxed mail K)
+unfolding translate
+looks_boxed p root result K mail same found = record {
+  met = record { value = found.met.value; kept = record { kept = found.met.kept; boxes = same } };
+}
+
+-- and so do steps that leave these
+left_boxed : (w : Setting) (x : Act Dom) (s : Storage) (r : Touched) (new : Domain) (K : Storage → Touched → Type 0)
+    (mail : Boxes) → mail ≡ (x s).state.boxes → Yields w x s r (Left new K) → Yields w x s r (Left new (Boxed mail K))
+left_boxed w x s r new K mail same left = record {
+  met = record { dom = left.met.dom; kept = record { kept = left.met.kept; boxes = same } };
+}
+
+-- the fetch of a word in the code: where it was found, the line of that address, the boxes, the hierarchy before and
 -- after, whether there are products, and the cycles spent before it and on it
 pub record Fetched (P : Type 0) : Type 0 where
   pub caps : Slots
   pub memory : Contents
+  pub mail : Boxes
   pub before : SystemContents P
   pub later : SystemContents P
   pub at : ℕ
@@ -422,13 +440,14 @@ abbrev pub AfterFetch : {P : Type 0} → (P → ℕ → Rule) → (P → ℕ →
     → Fetched P
     → Storage → Touched → Type 0
 AfterFetch rule stands p f =
-    Kept rule stands p.setting f.caps p.root f.memory f.later (f.spent + f.cycles)
+    Boxed f.mail (Kept rule stands p.setting f.caps p.root f.memory f.later (f.spent + f.cycles))
 
 -- it is the domain's next instruction
 pub record IsFetched {P : Type 0} (rule : P → ℕ → Rule) (stands : P → ℕ → ℕ → List ℕ → Type 0)
     (p : Point) (f : Fetched P) : Type 0 where
   pub page : LooksUp p p.root (Ok (f.at / 4096))
       (Kept rule stands p.setting f.caps p.root f.memory f.before f.spent)
+  pub boxes : f.mail ≡ p.storage.boxes
   pub placed_at : f.at % 4096 ≡ p.dom.threads.current.pc % 4096
   pub line : f.line ≡ f.at / f.before.l2.line_size
   pub makes : MakesTouch rule stands (Fetch f.line) f.cycles f.before f.later
@@ -446,12 +465,13 @@ module _ (p : Point) (new : Domain)
       (instruction w.machine (estate w.machine w.own) w.clone p.clock p.dom)
       (Left new K)
 
-  pub instruction_missed : (K : Storage → Touched → Type 0) (trap : Trap)
-      → LooksUp p p.root (Err trap) K → Stands new (trapped trap p.dom) → Runs K
+  pub instruction_missed : (K : Storage → Touched → Type 0) (mail : Boxes) (trap : Trap) → mail ≡ p.storage.boxes
+      → LooksUp p p.root (Err trap) K → Stands new (trapped trap p.dom) → Runs (Boxed mail K)
   unfolding instruction either
-  instruction_missed K trap missed stands =
+  instruction_missed K mail trap same missed stands =
       let root : ℕ = (estate p.setting.machine p.setting.own).root in
-      let fault : LooksUp p root (Err trap) K = subst (λ (n : ℕ). LooksUp p n (Err trap) K) top missed in
+      let fault : LooksUp p root (Err trap) (Boxed mail K) =
+      looks_boxed p root (Err trap) K mail same (subst (λ (n : ℕ). LooksUp p n (Err trap) K) top missed) in
       search (yields_rules, y_faults, fault, stands) depth 40
 
   module _ {P : Type 0} (rule : P → ℕ → Rule) (stands : P → ℕ → ℕ → List ℕ → Type 0) (f : Fetched P)
@@ -470,26 +490,32 @@ module _ (p : Point) (new : Domain)
         let w = p.setting in
         let e = estate w.machine w.own in
         let l = w.clone in
-        let M = Kept rule stands w f.caps p.root f.memory f.before f.spent in
+        let Before = Kept rule stands w f.caps p.root f.memory f.before f.spent in
+        let M = Boxed f.mail Before in
         let N = AfterFetch rule stands p f in
         let frame = f.at / 4096 in
         let pc = p.dom.threads.current.pc in
-        let there : LooksUp p e.root (Ok frame) M = subst (λ (n : ℕ). LooksUp p n (Ok frame) M) top is.page in
+        let there : LooksUp p e.root (Ok frame) M =
+        looks_boxed p e.root (Ok frame) Before f.mail is.boxes
+        (subst (λ (n : ℕ). LooksUp p n (Ok frame) Before) top is.page) in
         let line : Touch = Fetch (line_in w.machine frame pc) in
         let fetches : (u : Storage) (q : Touched) → M u q → N u (charged w q line) =
-        λ u q k.
-        line_kept rule stands w f.caps p.root f.memory (λ n. Fetch n) f.at pc f.line f.spent
-        (f.spent + f.cycles) f.cycles
-        f.before f.later u q is.placed_at is.line is.makes is.buffer refl k in
+        λ u q k. record {
+          kept =
+              line_kept rule stands w f.caps p.root f.memory (λ n. Fetch n) f.at pc f.line f.spent
+              (f.spent + f.cycles) f.cycles
+              f.before f.later u q is.placed_at is.line is.makes is.buffer refl k.kept;
+          boxes = k.boxes;
+        } in
         let Does : Storage → Touched → ℕ → Type 0 = λ u q x.
         Yields w (perform w.machine e l p.clock p.dom x (decode_of (is_some w.machine.muldiv) x)) u q (Left new K) in
         let Performed : Storage → Touched → Bool → Type 0 = λ u q b.
         Yields w (perform w.machine e l p.clock p.dom f.word (decode_of b f.word)) u q (Left new K) in
         let goes : (u : Storage) (q : Touched) → N u q → Does u q (word u.mem frame (place pc)) =
         λ u q k.
-        let products = k.fits.sound.products ∙ ap (λ (h : Hierarchy). h.products) k.fits.levels in
+        let products = k.kept.fits.sound.products ∙ ap (λ (h : Hierarchy). h.products) k.kept.fits.levels in
         let flag = is.muldiv ∙ ap (λ (o : Option ProductCosts). is_some o) (sym products) in
-        subst (Does u q) (is.found u.mem k.holds) (subst (Performed u q) flag (rest u q k)) in
+        subst (Does u q) (is.found u.mem k.kept.holds) (subst (Performed u q) flag (rest u q k)) in
         search (yields_rules, y_found, there, fetches, goes) depth 40
 
     pub instruction_undefined : (trap : Trap)
@@ -510,20 +536,22 @@ module _ (p : Point) (new : Domain)
 
     pub instruction_timed : (i : Instr) (K : Storage → Touched → Type 0)
         → decode_of f.muldiv f.word ≡ Some i → i ≢ instr.Ecall
-        → Goes (λ w. timed w.machine p.root p.clock p.dom i) K → Runs K
+        → Goes (λ w. timed w.machine p.root p.clock p.dom i) K → Runs (Boxed f.mail K)
     instruction_timed i K some other rest =
         let w = p.setting in
         let e = estate w.machine w.own in
         let l = w.clone in
-        instruction_read K (λ u q k.
+        instruction_read (Boxed f.mail K) (λ u q k.
         rw (some, perform-other w.machine e l p.clock p.dom f.word i other)
-        (subst (λ (n : ℕ). Yields w (timed w.machine n p.clock p.dom i) u q (Left new K)) top (rest u q k)))
+        (left_boxed w (timed w.machine e.root p.clock p.dom i) u q new K f.mail
+        (k.boxes ∙ sym (timed_boxes w.machine e p.clock p.dom i u))
+        (subst (λ (n : ℕ). Yields w (timed w.machine n p.clock p.dom i) u q (Left new K)) top (rest u q k))))
 
     pub instruction_executed : (i : Instr) (K : Storage → Touched → Type 0)
         → decode_of f.muldiv f.word ≡ Some i → i ≢ instr.Ecall
         → ((c : Product) (rd rs1 rs2 : ℕ) → i ≢ instr.Multiply c rd rs1 rs2)
         → ((c : Division) (rd rs1 rs2 : ℕ) → i ≢ instr.Divide c rd rs1 rs2)
-        → Goes (λ w. execute w.machine p.root p.clock p.dom i) K → Runs K
+        → Goes (λ w. execute w.machine p.root p.clock p.dom i) K → Runs (Boxed f.mail K)
     instruction_executed i K some other multiply divide rest =
         instruction_timed i K some other
         (λ u q k.

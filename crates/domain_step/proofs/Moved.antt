@@ -22,6 +22,7 @@ use Rattle.call_table.specs.declared.DomainStatus.{DomainStatus}
 use Rattle.call_table.specs.declared.DomainStatus.TheVariants.{Running, Exited, Stopped}
 use Rattle.call_table.specs.Domain.{Dom, is_running, delivered_on}
 use Rattle.call_table.specs.Claims.{is_mine, claims, Facts}
+use Rattle.mail_slots.specs.Boxes.{Boxes}
 use Rattle.kernel_call.specs.declared.domain.Domain.{Domain}
 use Rattle.kernel_call.specs.Models.{Becomes, Stands}
 use Rattle.world_view.specs.Kernel.{estate}
@@ -177,13 +178,14 @@ module _ {P : Type 0} (rule : P → ℕ → Rule) (stands : P → ℕ → ℕ �
   step_to end w = step w end
 
   -- the definitions' domain has the same interrupts, and the same current thread
-  module _ (w : Setting) (memory : Contents) (d : Domain) (system : SystemContents P) (now : ℕ) (s : Local)
-      (i : StandsIn rule stands w memory d system now s) where
+  module _ (w : Setting) (memory : Contents) (mail : Boxes) (d : Domain) (system : SystemContents P) (now : ℕ) (s : Local)
+      (i : StandsIn rule stands w memory mail d system now s) where
     -- between events nothing is spent
-    opens : KeptOf rule stands w d memory system 0 s.storage (at_no_cost s.caches)
+    opens : KeptOf rule stands w d memory mail system 0 s.storage (at_no_cost s.caches)
     opens = record {
       fits = i.fits;
       facts = i.facts;
+      boxes = i.boxes;
       layout = i.layout;
       leaves = i.leaves;
       cost = refl;
@@ -219,11 +221,12 @@ module _ {P : Type 0} (rule : P → ℕ → Rule) (stands : P → ℕ → ℕ �
 
     -- the code has the same, and only the clock is another
     same_at : (later : ℕ) (t : ℕ) → later ≡ t
-        → StandsIn rule stands w memory d system later (record s { clock = t })
+        → StandsIn rule stands w memory mail d system later (record s { clock = t })
     same_at later t is = record {
       fits = i.fits;
       dom = i.dom;
       facts = i.facts;
+      boxes = i.boxes;
       layout = i.layout;
       leaves = i.leaves;
       caches = i.caches;
@@ -231,7 +234,8 @@ module _ {P : Type 0} (rule : P → ℕ → Rule) (stands : P → ℕ → ℕ �
       time = is;
     }
 
-  module _ (end : ℕ) (memory memory' : Contents) (old new : Domain) (system system' : SystemContents P) where
+  module _ (end : ℕ) (memory memory' : Contents) (mail mail' : Boxes) (old new : Domain)
+      (system system' : SystemContents P) where
     -- the instruction of a setting's domain, at a clock
     abbrev instruction_at : Setting → ℕ → Dom → Act Dom
     instruction_at w t m =
@@ -239,20 +243,20 @@ module _ {P : Type 0} (rule : P → ℕ → Rule) (stands : P → ℕ → ℕ �
 
     pub moves_running : (now later base spent : ℕ) → old.status ≡ Running
         → ((w : Setting) → Leaves w (instruction_at w now)
-        old (KeptOf rule stands w old memory system 0) new (KeptOf rule stands w new memory' system' spent))
+        old (KeptOf rule stands w old memory mail system 0) new (KeptOf rule stands w new memory' mail' system' spent))
         → due now old.interrupts ≡ None → is_ready old.threads.active.state ≡ true
         → new.interrupts.moments ≡ old.interrupts.moments
         → base ≡ system'.core.costs.base → later ≡ now + base + spent
-        → Moves rule stands (step_to end) memory old system now memory' new system' later
+        → Moves rule stands (step_to end) memory mail old system now memory' mail' new system' later
     unfolding paid
     moves_running now later base spent runs leaves none ready moments price is w s i =
-        let K = KeptOf rule stands w new memory' system' spent in
+        let K = KeptOf rule stands w new memory' mail' system' spent in
         let Does : ℕ → Dom → Type 0 =
         λ t m. Yields w (instruction_at w t m) s.storage (at_no_cost s.caches) (Left new K) in
         let left : Does now s.dom =
         subst (Does now) i.dom.same
         (leaves w s.storage (at_no_cost s.caches) s.dom.readings s.dom.replies
-        (opens w memory old system now s i) i.dom.readings i.dom.replies) in
+        (opens w memory mail old system now s i) i.dom.readings i.dom.replies) in
         let next : Does s.clock s.dom = subst (λ (t : ℕ). Does t s.dom) i.time left in
         let r = instruction_at w s.clock s.dom s.storage in
         let q = touched_all w.levels w.pinned s.caches r.notes in
@@ -260,12 +264,13 @@ module _ {P : Type 0} (rule : P → ℕ → Rule) (stands : P → ℕ → ℕ �
         subst (λ (x : Touched). K r.state x) (owed w s.caches r.notes) next.met.kept in
         let base_is : w.machine.costs.base ≡ base = same_base w memory' system' kept.fits ∙ sym price in
         let runs_one =
-        step-running w end s (running_there w memory old system now s i runs)
-        (none_there w memory old system now s i none) (ready_there w memory old system now s i true ready) in
-        subst (StandsIn rule stands w memory' new system' later) (sym runs_one) (record {
+        step-running w end s (running_there w memory mail old system now s i runs)
+        (none_there w memory mail old system now s i none) (ready_there w memory mail old system now s i true ready) in
+        subst (StandsIn rule stands w memory' mail' new system' later) (sym runs_one) (record {
           fits = kept.fits;
           dom = next.met.dom;
           facts = kept.facts;
+          boxes = kept.boxes;
           layout = kept.layout;
           leaves = kept.leaves;
           caches = kept.caches;
@@ -275,14 +280,14 @@ module _ {P : Type 0} (rule : P → ℕ → Rule) (stands : P → ℕ → ℕ �
 
     -- what they stand for after some change of it
     module _ (f : Setting → Local → Local) (now later : ℕ)
-        (moves : Moves rule stands f memory old system now memory' new system' later)
-        (runs : Runs rule stands memory old system now) where
+        (moves : Moves rule stands f memory mail old system now memory' mail' new system' later)
+        (runs : Runs rule stands memory mail old system now) where
       -- then
-      abbrev stands_then : StandsIn rule stands runs.setting memory' new system' later
+      abbrev stands_then : StandsIn rule stands runs.setting memory' mail' new system' later
           (f runs.setting runs.state)
       stands_then = moves runs.setting runs.state runs.stands_in
 
-      pub runs_on : Runs rule stands memory' new system' later
+      pub runs_on : Runs rule stands memory' mail' new system' later
       runs_on = record {
         setting = runs.setting;
         state = f runs.setting runs.state;
@@ -295,33 +300,33 @@ module _ {P : Type 0} (rule : P → ℕ → Rule) (stands : P → ℕ → ℕ �
       pub pinned_stays : system'.core.pinned ≡ system.core.pinned
       pinned_stays = stands_then.fits.pinned ∙ sym runs.stands_in.fits.pinned
 
-  module _ (end : ℕ) (memory : Contents) (d : Domain) (system : SystemContents P) (now : ℕ) where
+  module _ (end : ℕ) (memory : Contents) (mail : Boxes) (d : Domain) (system : SystemContents P) (now : ℕ) where
     -- only the clock goes on
     abbrev Waits : ℕ → Type 0
-    Waits later = Moves rule stands (step_to end) memory d system now memory d system later
+    Waits later = Moves rule stands (step_to end) memory mail d system now memory mail d system later
 
     pub moves_still : is_running d.status ≡ false → Waits end
     moves_still still w s i =
-        let stays : is_running s.dom.status ≡ false = running_is w memory d system now s i ∙ still in
-        subst (StandsIn rule stands w memory d system end)
+        let stays : is_running s.dom.status ≡ false = running_is w memory mail d system now s i ∙ still in
+        subst (StandsIn rule stands w memory mail d system end)
         (sym (step-still w end s stays))
-        (same_at w memory d system now s i end end refl)
+        (same_at w memory mail d system now s i end end refl)
 
     -- no thread is ready: the clock goes on alone
     pub moves_idle : (later : ℕ) → d.status ≡ Running → due now d.interrupts ≡ None
         → is_ready d.threads.active.state ≡ false → later ≡ idle_until end (next_cycle d.interrupts)
         → Waits later
     moves_idle later runs none idle is w s i =
-        let same = interrupts_there w memory d system now s i in
+        let same = interrupts_there w memory mail d system now s i in
         let goes =
-        step-idle w end s (running_there w memory d system now s i runs)
-        (none_there w memory d system now s i none) (ready_there w memory d system now s i false idle) in
+        step-idle w end s (running_there w memory mail d system now s i runs)
+        (none_there w memory mail d system now s i none) (ready_there w memory mail d system now s i false idle) in
         let t : ℕ = idle_until end (next_cycle (interrupts_of w.own s.dom)) in
-        subst (StandsIn rule stands w memory d system later) (sym goes)
-        (same_at w memory d system now s i later t
+        subst (StandsIn rule stands w memory mail d system later) (sym goes)
+        (same_at w memory mail d system now s i later t
         (is ∙ ap (λ (x : Interrupts). idle_until end (next_cycle x)) (sym same)))
 
-  module _ (end : ℕ) (memory : Contents) (old new : Domain) (system system' : SystemContents P) where
+  module _ (end : ℕ) (memory : Contents) (mail : Boxes) (old new : Domain) (system system' : SystemContents P) where
     -- what a delivery touches in the machine
     module _ (w : Setting) (k : CloneLayout) (work : WorkDone) (fits : Fits rule w memory system)
         (same : layout_model k ≡ w.clone) (is : work ≡ plain delivery_op) where
@@ -343,7 +348,7 @@ module _ {P : Type 0} (rule : P → ℕ → Rule) (stands : P → ℕ → ℕ �
         → MakesTouches rule stands (operation system.core.costs (layout_model new.layout) work) cycles
         system system'
         → system'.core.tlb ≡ system.core.tlb → later ≡ now + cycles
-        → Moves rule stands (step_to end) memory old system now memory new system' later
+        → Moves rule stands (step_to end) memory mail old system now memory mail new system' later
     unfolding delivered
     moves_due now later cycles line work runs comes becomes caps pool map clone calls number moments is made buffer time
         w s i =
@@ -360,13 +365,13 @@ module _ {P : Type 0} (rule : P → ℕ → Rule) (stands : P → ℕ → ℕ �
         let dom : Stands new (delivered_on line s.dom) =
         subst (λ (m : Dom). Stands new (delivered_on line m)) i.dom.same
         (becomes s.dom.readings s.dom.replies i.dom.readings i.dom.replies) in
-        let due_is = due_there w memory old system now s i ∙ comes in
+        let due_is = due_there w memory mail old system now s i ∙ comes in
         let goes =
-        step-due w end s line (running_there w memory old system now s i runs)
+        step-due w end s line (running_there w memory mail old system now s i runs)
         due_is in
         let FactsOf : Slots → Type 0 = λ slots. Facts e.root (is_mine e) (claims e slots) s.storage.mem in
         let Keeps : ℕ → Buffer P → Type 0 = λ n b. KeepsLeaves s.storage.mem memory.frames n b in
-        subst (StandsIn rule stands w memory new system' later) (sym goes) (record {
+        subst (StandsIn rule stands w memory mail new system' later) (sym goes) (record {
           fits = fits_still rule stands w memory system system' ts cycles makes i.fits;
           dom = dom;
           facts = record {
@@ -376,6 +381,7 @@ module _ {P : Type 0} (rule : P → ℕ → Rule) (stands : P → ℕ → ℕ �
             holds = i.facts.holds;
             facts = subst FactsOf (sym caps) i.facts.facts;
           };
+          boxes = i.boxes;
           layout = placed;
           leaves = subst (λ (b : Buffer P). Keeps new.map b) (sym buffer)
               (subst (λ (n : ℕ). Keeps n system.core.tlb) (sym map) i.leaves);
@@ -387,21 +393,22 @@ module _ {P : Type 0} (rule : P → ℕ → Rule) (stands : P → ℕ → ℕ �
   -- ---- events along a slot
 
   module _ (end until : ℕ) where
-    abbrev pub Along : (events : ℕ) → Contents → Domain → SystemContents P → ℕ → Contents → Domain → SystemContents P → ℕ
-        → Type 0
+    abbrev pub Along : (events : ℕ) → Contents → Boxes → Domain → SystemContents P → ℕ
+        → Contents → Boxes → Domain → SystemContents P → ℕ → Type 0
     Along = MovesAlong rule stands end until
 
-    pub along_none : (memory : Contents) (d : Domain) (system : SystemContents P) (now : ℕ)
-        → Along 0 memory d system now memory d system now
-    along_none memory d system now w s i = record { state = s; each = refl; stands_in = i }
+    pub along_none : (memory : Contents) (mail : Boxes) (d : Domain) (system : SystemContents P) (now : ℕ)
+        → Along 0 memory mail d system now memory mail d system now
+    along_none memory mail d system now w s i = record { state = s; each = refl; stands_in = i }
 
     -- those before a clock that is no later are events before this one, too
-    pub along_then : (memory between memory' : Contents) (old now new : Domain)
+    pub along_then : (memory between memory' : Contents) (mail midway mail' : Boxes) (old now new : Domain)
         (system middle system' : SystemContents P) (first clock later sooner n k all : ℕ) → sooner ≤ until → all ≡ n + k
-        → Along n memory old system first between now middle clock
-        → MovesAlong rule stands end sooner k between now middle clock memory' new system' later
-        → Along all memory old system first memory' new system' later
-    along_then memory between memory' old now new system middle system' first clock later sooner n k all most sum so_far more w s i =
+        → Along n memory mail old system first between midway now middle clock
+        → MovesAlong rule stands end sooner k between midway now middle clock memory' mail' new system' later
+        → Along all memory mail old system first memory' mail' new system' later
+    along_then memory between memory' mail midway mail' old now new system middle system' first clock later sooner n k all
+        most sum so_far more w s i =
         let x = so_far w s i in
         let y = more w x.state x.stands_in in
         record {
@@ -413,45 +420,46 @@ module _ {P : Type 0} (rule : P → ℕ → Rule) (stands : P → ℕ → ℕ �
           stands_in = y.stands_in;
         }
 
-    pub along_step : (memory : Contents) (old : Domain) (system : SystemContents P) (first : ℕ) (memory' : Contents)
-        (new : Domain) (system' : SystemContents P) (later : ℕ) → first < until
-        → Moves rule stands (λ w. step w end) memory old system first memory' new system' later
-        → Along 1 memory old system first memory' new system' later
-    along_step memory old system first memory' new system' later below moves w s i =
+    pub along_step : (memory : Contents) (mail : Boxes) (old : Domain) (system : SystemContents P) (first : ℕ)
+        (memory' : Contents) (mail' : Boxes) (new : Domain) (system' : SystemContents P) (later : ℕ) → first < until
+        → Moves rule stands (λ w. step w end) memory mail old system first memory' mail' new system' later
+        → Along 1 memory mail old system first memory' mail' new system' later
+    along_step memory mail old system first memory' mail' new system' later below moves w s i =
         let early : s.clock < until = subst (λ (n : ℕ). n < until) i.time below in
         record { state = step w end s; each = (early, refl); stands_in = moves w s i }
 
-    module _ (memory : Contents) (old : Domain) (system : SystemContents P) (first : ℕ) (base : 0 < system.core.costs.base)
-        (trap : 0 < system.core.costs.trap) (memory' : Contents) (now : Domain) (system' : SystemContents P) (clock n : ℕ)
-        (so_far : Along n memory old system first memory' now system' clock) (past : until ≤ clock) where
-      timed_there : (w : Setting) (s : Local) → StandsIn rule stands w memory old system first s
+    module _ (memory : Contents) (mail : Boxes) (old : Domain) (system : SystemContents P) (first : ℕ)
+        (base : 0 < system.core.costs.base) (trap : 0 < system.core.costs.trap)
+        (memory' : Contents) (mail' : Boxes) (now : Domain) (system' : SystemContents P) (clock n : ℕ)
+        (so_far : Along n memory mail old system first memory' mail' now system' clock) (past : until ≤ clock) where
+      timed_there : (w : Setting) (s : Local) → StandsIn rule stands w memory mail old system first s
           → IsTimed w.machine
       timed_there w s i = record {
         base = subst (λ (n : ℕ). 0 < n) (sym (same_base w memory system i.fits)) base;
         trap = subst (λ (n : ℕ). 0 < n) (sym (ap (λ (c : CostTable). c.trap) (same_costs rule w memory system i.fits))) trap;
       }
 
-      over : (w : Setting) (s : Local) (i : StandsIn rule stands w memory old system first s)
+      over : (w : Setting) (s : Local) (i : StandsIn rule stands w memory mail old system first s)
           → until ≤ ((so_far w s i).state).clock
       over w s i = subst (λ (n : ℕ). until ≤ n) (so_far w s i).stands_in.time past
 
       -- up to the end they are the whole slot
       pub along_whole : until ≡ end
-          → Moves rule stands (λ w. stretch w end) memory old system first memory' now system' clock
+          → Moves rule stands (λ w. stretch w end) memory mail old system first memory' mail' now system' clock
       along_whole all w s i =
           let x = so_far w s i in
           let far = over w s i in
           let same : stretch w end s ≡ x.state =
           whole_slot w (timed_there w s i) end until all n s x.state x.each (omega (arith, far, all)) in
-          subst (StandsIn rule stands w memory' now system' clock) (sym same) x.stands_in
+          subst (StandsIn rule stands w memory' mail' now system' clock) (sym same) x.stands_in
 
       -- within a cycle they are one
       pub along_once : until ≤ end → until ≡ first + 1
-          → Moves rule stands (λ w. step w end) memory old system first memory' now system' clock
+          → Moves rule stands (λ w. step w end) memory mail old system first memory' mail' now system' clock
       along_once within one w s i =
           let x = so_far w s i in
           let far = over w s i in
           let here = i.time in
           let same : step w end s ≡ x.state =
           one_event w (timed_there w s i) end until within n s x.state (omega (arith, one, here)) x.each far in
-          subst (StandsIn rule stands w memory' now system' clock) (sym same) x.stands_in
+          subst (StandsIn rule stands w memory' mail' now system' clock) (sym same) x.stands_in

@@ -3,6 +3,7 @@ use Rattle.std.proofs.Common.{ℕ, Bool, refl, sym}
 use Rattle.phys_mem.specs.Contents.{Contents}
 use Rattle.repl_policy.specs.declared.AnyPolicy.{AnyPolicy}
 use Rattle.repl_policy.specs.Members.{any_rule, any_stands_for}
+use Rattle.mail_slots.specs.Boxes.{Boxes}
 use Rattle.kernel_call.specs.declared.domain.Domain.{Domain}
 use Rattle.kernel_call.specs.Facts.{HasFacts}
 use Rattle.mem_system.specs.Contents.{SystemContents}
@@ -22,13 +23,14 @@ pub is_setting : (p : Hardware) (o : Own) (pinned : Bool) → IsKernel p o → I
 unfolding hierarchy
 is_setting p o pinned kernel = record { costs = refl; products = refl; line = refl; clone = kernel.has_layout }
 
-module _ (w : Setting) (memory : Contents) (x : Domain) (system : SystemContents AnyPolicy) (now : ℕ) (s : Local) where
+module _ (w : Setting) (memory : Contents) (mail : Boxes) (x : Domain) (system : SystemContents AnyPolicy) (now : ℕ)
+    (s : Local) where
   -- what is kept for all domains, and the domain in its slot
   abbrev pub OfMachine : Type 0
-  OfMachine = MachineStands w.machine w.levels w.pinned memory system now s.storage s.caches s.clock
+  OfMachine = MachineStands w.machine w.levels w.pinned memory mail system now s.storage s.caches s.clock
 
   abbrev pub InSlot : Type 0
-  InSlot = StandsIn any_rule any_stands_for w memory x system now s
+  InSlot = StandsIn any_rule any_stands_for w memory mail x system now s
 
   pub stands_in : IsKernel w.machine w.own → IsSetting w → OfMachine → DomainStands w x s.dom
       → HasFacts (estate w.machine w.own) memory s.storage.mem x → KeepsLeaves s.storage.mem memory.frames x.map system.core.tlb
@@ -43,6 +45,7 @@ module _ (w : Setting) (memory : Contents) (x : Domain) (system : SystemContents
     };
     dom = domain.dom;
     facts = facts;
+    boxes = machine.boxes;
     layout = domain.layout;
     leaves = leaves;
     caches = machine.caches;
@@ -54,6 +57,7 @@ module _ (w : Setting) (memory : Contents) (x : Domain) (system : SystemContents
   machine_of is = record {
     frames = sym is.fits.frames;
     holds = is.facts.holds;
+    boxes = is.boxes;
     levels = is.fits.levels;
     pinned = is.fits.pinned;
     caches = is.caches;

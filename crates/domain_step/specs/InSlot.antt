@@ -7,19 +7,20 @@ use Rattle.mem_system.specs.Contents.{SystemContents}
 use Rattle.mem_system.specs.Translation.{KeepsLeaves}
 use Rattle.image_check.specs.Image.{Image, own_of}
 use Rattle.image_check.specs.Laws.{Runnable}
+use Rattle.mail_slots.specs.Boxes.{Boxes}
 use Rattle.kernel_call.specs.declared.domain.Domain.{Domain}
 use Rattle.domain_step.specs.Standing.{MachineStands, DomainStands}
 use Rattle.world_view.specs.Frames.{root_of}
 use Rattle.world_view.specs.Machine.{World, caches_of, clock_of, dom_of, guards_of, setting_by}
 use Rattle.world_view.specs.Relations.{IsDomain, HasFacts, HasRights}
 
--- memory, hierarchy, domains and clock stand for a world of an accepted image in a slot of domain d; the
+-- memory, boxes, hierarchy, domains and clock stand for a world of an accepted image in a slot of domain d; the
 -- facts of each domain hold there, and the buffer keeps walks of domain d
 pub record StandsIn (off : Option Guard) (i : Image) (d : ℕ) (w : World) (memory : Contents)
-    (system : SystemContents AnyPolicy) (domains : List Domain) (now : ℕ) : Type 0 where
+    (mail : Boxes) (system : SystemContents AnyPolicy) (domains : List Domain) (now : ℕ) : Type 0 where
   pub runnable : Runnable i
   pub domain : IsDomain i d
-  pub machine : MachineStands i.all.hardware (guards_of off i).levels false memory system now w.storage
+  pub machine : MachineStands i.all.hardware (guards_of off i).levels false memory mail system now w.storage
       (caches_of 0 w) (clock_of 0 w)
   pub all_domains : length domains ≡ length i.owns
   pub each_domain : (e : ℕ) (x : Domain) → slice_get domains e ≡ Some x

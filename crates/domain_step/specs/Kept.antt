@@ -1,4 +1,4 @@
--- What the code keeps, within an event, of memory and of the cost so far.
+-- What the code keeps, within an event, of memory, of boxes and of the cost so far.
 use Rattle.std.specs.Prelude.{◌≡◌, ℕ, List, [], ◌∷◌, length}
 use Rattle.phys_mem.specs.Contents.{Contents}
 use Rattle.phys_mem.specs.Holds.{Holds}
@@ -6,6 +6,7 @@ use Rattle.set_cache.specs.Rule.{Rule}
 use Rattle.cap_table.specs.Slots.{Slots}
 use Rattle.kernel_clone.specs.Footprints.{IsLayout}
 use Rattle.kernel_clone.specs.Models.{layout_model}
+use Rattle.mail_slots.specs.Boxes.{Boxes}
 use Rattle.call_table.specs.Claims.{is_mine, claims, Facts}
 use Rattle.kernel_call.specs.declared.domain.Domain.{Domain}
 use Rattle.kernel_call.specs.Facts.{HasFacts}
@@ -62,12 +63,13 @@ pub record Kept {P : Type 0} (rule : P → ℕ → Rule) (stands : P → ℕ →
   pub cost : spent ≡ r.cost
   pub caches : SystemStands stands system r.caches
 
--- the same of a whole domain of the code
+-- the same of a whole domain of the code, and of the boxes
 pub record KeptOf {P : Type 0} (rule : P → ℕ → Rule) (stands : P → ℕ → ℕ → List ℕ → Type 0) (w : Setting)
-    (d : Domain) (memory : Contents) (system : SystemContents P) (spent : ℕ)
+    (d : Domain) (memory : Contents) (mail : Boxes) (system : SystemContents P) (spent : ℕ)
     (s : Storage) (r : Touched) : Type 0 where
   pub fits : Fits rule w memory system
   pub facts : HasFacts (estate w.machine w.own) memory s.mem d
+  pub boxes : mail ≡ s.boxes
   pub layout : layout_model d.layout ≡ w.clone
   pub leaves : KeepsLeaves s.mem memory.frames d.map system.core.tlb
   pub cost : spent ≡ r.cost

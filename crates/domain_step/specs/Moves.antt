@@ -1,4 +1,4 @@
--- How steps of a domain end where the code answers, and what its domain, memory and hierarchy stand for.
+-- How steps of a domain end where the code answers, and what its domain, memory, boxes and hierarchy stand for.
 use Rattle.std.specs.Prelude.{◌≡◌, ℕ, zero, suc, ◌<◌, ◌/◌, List, Result, Ok, Err, ◌⊎◌}
 use Rattle.std.proofs.Common.{inl, inr}
 use Rattle.tp_base.specs.Act.{either}
@@ -9,6 +9,7 @@ use Rattle.rv_core.specs.declared.Trap.{Trap}
 use Rattle.kernel_clone.specs.Models.{layout_model}
 use Rattle.call_table.specs.declared.Reply.{Reply}
 use Rattle.call_table.specs.Domain.{Dom}
+use Rattle.mail_slots.specs.Boxes.{Boxes}
 use Rattle.kernel_call.specs.declared.domain.Domain.{Domain}
 use Rattle.kernel_call.specs.Logs.{log_of}
 use Rattle.kernel_call.specs.LogModel.{log_model}
@@ -73,12 +74,14 @@ stored m f i size place value = written m f i (stored_in size (word m f i) place
 
 -- ---- between events
 
--- the code's domain, memory, hierarchy and clock stand for this state of the setting's domain
+-- the code's domain, memory, boxes, hierarchy and clock stand for this state of the setting's domain
 pub record StandsIn {P : Type 0} (rule : P → ℕ → Rule) (stands : P → ℕ → ℕ → List ℕ → Type 0) (w : Setting)
-    (memory : Contents) (d : Domain) (system : SystemContents P) (clock : ℕ) (s : Local) : Type 0 where
+    (memory : Contents) (mail : Boxes) (d : Domain) (system : SystemContents P) (clock : ℕ) (s : Local)
+    : Type 0 where
   pub fits : Fits rule w memory system
   pub dom : Stands d s.dom
   pub facts : HasFacts (estate w.machine w.own) memory s.storage.mem d
+  pub boxes : mail ≡ s.storage.boxes
   pub layout : layout_model d.layout ≡ w.clone
   pub leaves : KeepsLeaves s.storage.mem memory.frames d.map system.core.tlb
   pub caches : SystemStands stands system s.caches
@@ -87,10 +90,10 @@ pub record StandsIn {P : Type 0} (rule : P → ℕ → Rule) (stands : P → ℕ
 
 -- whatever the old ones stand for, in whatever setting, the new ones stand for f of it
 abbrev pub Moves : {P : Type 0} → (P → ℕ → Rule) → (P → ℕ → ℕ → List ℕ → Type 0) → (Setting → Local → Local)
-    → Contents → Domain → SystemContents P → ℕ → Contents → Domain → SystemContents P → ℕ → Type 0
-Moves rule stands f memory old system now memory' new system' later = (w : Setting) (s : Local)
-    → StandsIn rule stands w memory old system now s
-    → StandsIn rule stands w memory' new system' later (f w s)
+    → Contents → Boxes → Domain → SystemContents P → ℕ → Contents → Boxes → Domain → SystemContents P → ℕ → Type 0
+Moves rule stands f memory mail old system now memory' mail' new system' later = (w : Setting) (s : Local)
+    → StandsIn rule stands w memory mail old system now s
+    → StandsIn rule stands w memory' mail' new system' later (f w s)
 
 -- so many events in a slot that ends then, each of which begins before this clock, lead from this state to that
 abbrev pub Happen : Setting → (end until : ℕ) → ℕ → Local → Local → Type 0
@@ -99,23 +102,24 @@ Happen w end until (suc n) s x = (s.clock < until) × Happen w end until n (step
 
 -- what they stand for after so many events
 pub record Went {P : Type 0} (rule : P → ℕ → Rule) (stands : P → ℕ → ℕ → List ℕ → Type 0) (w : Setting)
-    (end until events : ℕ) (memory : Contents) (d : Domain) (system : SystemContents P) (clock : ℕ) (s : Local)
-    : Type 0 where
+    (end until events : ℕ) (memory : Contents) (mail : Boxes) (d : Domain) (system : SystemContents P) (clock : ℕ)
+    (s : Local) : Type 0 where
   pub state : Local
   pub each : Happen w end until events s state
-  pub stands_in : StandsIn rule stands w memory d system clock state
+  pub stands_in : StandsIn rule stands w memory mail d system clock state
 
 -- whatever the old ones stand for, in whatever setting, the new ones stand for it after so many events of a slot that
 -- ends then, each of which begins before this clock
 abbrev pub MovesAlong : {P : Type 0} → (P → ℕ → Rule) → (P → ℕ → ℕ → List ℕ → Type 0) → (end until events : ℕ)
-    → Contents → Domain → SystemContents P → ℕ → Contents → Domain → SystemContents P → ℕ → Type 0
-MovesAlong rule stands end until events memory old system now memory' new system' later = (w : Setting) (s : Local)
-    → StandsIn rule stands w memory old system now s
-    → Went rule stands w end until events memory' new system' later s
+    → Contents → Boxes → Domain → SystemContents P → ℕ → Contents → Boxes → Domain → SystemContents P → ℕ → Type 0
+MovesAlong rule stands end until events memory mail old system now memory' mail' new system' later =
+    (w : Setting) (s : Local)
+    → StandsIn rule stands w memory mail old system now s
+    → Went rule stands w end until events memory' mail' new system' later s
 
 -- they stand for some state of some domain
 pub record Runs {P : Type 0} (rule : P → ℕ → Rule) (stands : P → ℕ → ℕ → List ℕ → Type 0)
-    (memory : Contents) (d : Domain) (system : SystemContents P) (clock : ℕ) : Type 0 where
+    (memory : Contents) (mail : Boxes) (d : Domain) (system : SystemContents P) (clock : ℕ) : Type 0 where
   pub setting : Setting
   pub state : Local
-  pub stands_in : StandsIn rule stands setting memory d system clock state
+  pub stands_in : StandsIn rule stands setting memory mail d system clock state

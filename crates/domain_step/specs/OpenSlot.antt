@@ -7,6 +7,7 @@ use Rattle.irq_partition.specs.declared.Moment.{Moment}
 use Rattle.irq_partition.specs.Interrupts.{next_of}
 use Rattle.mem_system.specs.Contents.{SystemContents}
 use Rattle.image_check.specs.Image.{Image}
+use Rattle.mail_slots.specs.Boxes.{Boxes}
 use Rattle.kernel_call.specs.declared.domain.Domain.{Domain}
 use Rattle.kernel_call.specs.Models.{CountsUpTo}
 use Rattle.world_view.specs.Machine.{World, Guards, guards_of, Owned, if_due, first_of}
@@ -18,21 +19,21 @@ abbrev pub CountUpTo : ℕ → List Domain → Type 0
 CountUpTo now domains = (d : ℕ) (x : Domain) → slice_get domains d ≡ Some x → CountsUpTo now x
 
 -- they stand for some world so
-pub record Stands (d : ℕ) (memory : Contents) (system : SystemContents AnyPolicy) (domains : List Domain)
+pub record Stands (d : ℕ) (memory : Contents) (mail : Boxes) (system : SystemContents AnyPolicy) (domains : List Domain)
     (now : ℕ) : Type 0 where
   pub off : Option Guard
   pub image : Image
   pub world : World
-  pub stands : StandsIn off image d world memory system domains now
+  pub stands : StandsIn off image d world memory mail system domains now
 
 -- whatever world the old ones stand for, the new ones stand for f of it
 abbrev pub Becomes : (Guards → Image → World → World) → ℕ
-    → Contents → SystemContents AnyPolicy → List Domain → ℕ
-    → Contents → SystemContents AnyPolicy → List Domain → ℕ → Type 0
-Becomes f d memory system domains now memory' system' domains' later = (off : Option Guard) (i : Image)
+    → Contents → Boxes → SystemContents AnyPolicy → List Domain → ℕ
+    → Contents → Boxes → SystemContents AnyPolicy → List Domain → ℕ → Type 0
+Becomes f d memory mail system domains now memory' mail' system' domains' later = (off : Option Guard) (i : Image)
     (w : World)
-    → StandsIn off i d w memory system domains now
-    → StandsIn off i d (f (guards_of off i) i w) memory' system' domains' later
+    → StandsIn off i d w memory mail system domains now
+    → StandsIn off i d (f (guards_of off i) i w) memory' mail' system' domains' later
 
 -- ---- moments of all domains
 

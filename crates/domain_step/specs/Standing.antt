@@ -6,6 +6,7 @@ use Rattle.repl_policy.specs.declared.AnyPolicy.{AnyPolicy}
 use Rattle.repl_policy.specs.Members.{any_rule, any_stands_for}
 use Rattle.kernel_clone.specs.Models.{layout_model}
 use Rattle.call_table.specs.Domain.{Dom}
+use Rattle.mail_slots.specs.Boxes.{Boxes}
 use Rattle.kernel_call.specs.declared.domain.Domain.{Domain}
 use Rattle.kernel_call.specs.Models.{Stands}
 use Rattle.kernel_call.specs.Facts.{Has}
@@ -17,13 +18,13 @@ use Rattle.world_view.specs.Kernel.{estate}
 use Rattle.world_view.specs.Event.{Storage}
 use Rattle.world_view.specs.Machine.{Setting}
 
--- what is kept for all domains of a machine: memory stands for this storage, each set of each cache and of the buffer and the
--- predictor's counters for these caches, and the clock is the same
-pub record MachineStands (p : Hardware) (h : Hierarchy) (b : Bool) (memory : Contents)
-    (system : SystemContents AnyPolicy) (now : ℕ)
-    (s : Storage) (c : Caches) (t : ℕ) : Type 0 where
+-- what is kept for all domains of a machine: memory and boxes stand for this storage, each set of each cache and of the
+-- buffer and the predictor's counters for these caches, and the clock is the same
+pub record MachineStands (p : Hardware) (h : Hierarchy) (b : Bool) (memory : Contents) (mail : Boxes)
+    (system : SystemContents AnyPolicy) (now : ℕ) (s : Storage) (c : Caches) (t : ℕ) : Type 0 where
   pub frames : memory.frames ≡ p.frames
   pub holds : Holds memory s.mem
+  pub boxes : mail ≡ s.boxes
   pub levels : h ≡ hierarchy_of any_rule system
   pub pinned : system.core.pinned ≡ b
   pub caches : SystemStands any_stands_for system c

@@ -9,11 +9,13 @@ ghost use Rattle.kernel_clone.specs.Models.{layout_model, IsWork};
 ghost use Rattle.call_table.specs.declared.Reply.{Reply};
 ghost use Rattle.call_table.specs.Claims.{Estate};
 ghost use Rattle.call_table.specs.Calls as table;
+ghost use Rattle.call_table.specs.Mail.{called};
 ghost use Rattle.kernel_call.specs.Logs.{log_of};
 ghost use Rattle.kernel_call.specs.LogModel.{log_model};
 ghost use Rattle.kernel_call.specs.Models.{dom_model, Becomes};
 ghost use Rattle.kernel_call.specs.Facts.{HasFacts, Valid};
-ghost use Rattle.kernel_call.specs.Calls.{IsCalled, KeepsParts};
+ghost use Rattle.kernel_call.specs.Calls.{KeepsParts};
+ghost use Rattle.kernel_call.specs.Mailboxes.{HasCalled};
 ghost use Rattle.mem_system.specs.Contents.{system};
 ghost use Rattle.world_view.specs.Instruction as spec;
 ghost use Rattle.world_view.specs.Event as event;
@@ -27,6 +29,7 @@ use call_table::DomainStatus;
 use domain_switch::charge;
 use kernel_call::{Domain, Outcome};
 use l2_colour::L2;
+use mail_slots::Mail;
 use mem_system::OnCore;
 use phys_mem::PhysMem;
 use rv_core::Trap;
@@ -127,9 +130,9 @@ pub fn finish(domain: &mut Domain, instr: Instr, value: u32, next: u32)
 
 // The kernel call in x17, if the domain may make it, with the arguments in x10, x11
 // and x12. As a call of its own it would copy the outcome, which is large, once more.
-#[tactic(auto, unfolding(call_table::specs::Calls::call))]
+#[tactic(auto, unfolding(call_table::specs::Mail::called))]
 #[inline(always)]
-fn answer(memory: &mut PhysMem, domain: &mut Domain) -> Outcome
+fn answer(memory: &mut PhysMem, domain: &mut Domain, mail: &mut Mail) -> Outcome
     requires valid { Valid memory.old domain.old }
     requires frames { memory.old.frames ≤ 2 ^ 15 }
     requires ready { is_ready domain.old.threads.active.state ≡ true }
@@ -137,8 +140,9 @@ fn answer(memory: &mut PhysMem, domain: &mut Domain) -> Outcome
     ensures calls { (e : Estate) (readings : List ℕ) (replies : List Reply) (m : Mem)
         → HasFacts e memory.old m domain.old
         → log_model domain.old.readings ≡ log_of readings → log_model domain.old.replies ≡ log_of replies
-        → IsCalled e memory.new domain.new (table.number_made e (dom_model domain.old readings replies))
-        (length replies) result (table.call e (dom_model domain.old readings replies) m) }
+        → HasCalled e memory.new mail.new domain.new
+        (table.number_made e (dom_model domain.old readings replies)) (length replies) result
+        (called e (dom_model domain.old readings replies) (record { mem = m; boxes = mail.old })) }
     ensures work { IsWork result.work }
     ensures keeps { KeepsParts domain.old domain.new }
     ensures frames { memory.new.frames ≡ memory.old.frames }
@@ -147,7 +151,7 @@ fn answer(memory: &mut PhysMem, domain: &mut Domain) -> Outcome
     let regs = &domain.threads.active.regs;
     let number = regs.get(17);
     let args = [regs.get(10), regs.get(11), regs.get(12)];
-    kernel_call::call_on_memory(domain, memory, number, args)
+    kernel_call::call(domain, memory, number, args, mail)
 }
 
 /// The kernel call that the domain makes. Its work is charged, and then the
@@ -160,6 +164,7 @@ pub fn call<P: Policy>(
     l2: &mut L2<P>,
     domain: &mut Domain,
     spent: u32,
+    mail: &mut Mail,
 ) -> u32
     requires valid { Valid memory.old domain.old }
     requires clone { IsLayout (layout_model domain.old.layout) }
@@ -169,14 +174,16 @@ pub fn call<P: Policy>(
     requires spent { spent < 2 ^ 31 }
     ensures leaves { (w : Setting) → Leaves w
         (λ d. event.make_call w.machine (estate w.machine w.own) w.clone d)
-        domain.old (KeptOf P.rule P.stands_for w domain.old memory.old (system core.old l2.old) spent)
-        domain.new (KeptOf P.rule P.stands_for w domain.new memory.new (system core.new l2.new) result) }
+        domain.old (KeptOf P.rule P.stands_for w domain.old memory.old mail.old
+        (system core.old l2.old) spent)
+        domain.new (KeptOf P.rule P.stands_for w domain.new memory.new mail.new
+        (system core.new l2.new) result) }
     ensures frames { memory.new.frames ≡ memory.old.frames }
     ensures grows { Grows 0 0 2 domain.old domain.new }
     ensures moments { domain.new.interrupts.moments ≡ domain.old.interrupts.moments }
     ensures few { result ≤ spent + most_operation }
 {
-    let outcome = answer(memory, domain);
+    let outcome = answer(memory, domain, mail);
     let charged = spent + charge(core, l2, &domain.layout, &outcome.work);
     if !outcome.empties_buffer() {
         return charged;

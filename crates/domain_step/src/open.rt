@@ -12,6 +12,7 @@ use call_table::DomainStatus;
 use domain_switch::charge;
 use kernel_call::{Domain, deliver};
 use l2_colour::L2;
+use mail_slots::Mail;
 use mem_system::OnCore;
 use phys_mem::PhysMem;
 use repl_policy::AnyPolicy;
@@ -73,14 +74,16 @@ fn step_among(
     d: usize,
     now: u64,
     end: u64,
+    mail: &mut Mail,
 ) -> u64
     requires domain { d < length domains.old }
-    requires stands { Stands d memory.old (system core.old l2.old) domains.old now }
+    requires stands { Stands d memory.old mail.old (system core.old l2.old) domains.old now }
     requires before { now < end }
     requires end { end < 2 ^ 62 }
     requires few { CountUpTo now domains.old }
     ensures becomes { Becomes (λ g i w. spec.step_among g i 0 d end w) d
-        memory.old (system core.old l2.old) domains.old now memory.new (system core.new l2.new) domains.new result }
+        memory.old mail.old (system core.old l2.old) domains.old now
+        memory.new mail.new (system core.new l2.new) domains.new result }
     ensures few { CountUpTo result domains.new }
     ensures same { length domains.new ≡ length domains.old }
     ensures later { now < result }
@@ -93,7 +96,7 @@ fn step_among(
             return now + u64::from(charge(core, l2, &layout, &work));
         }
     }
-    step(memory, core, l2, &mut domains[d], now, end)
+    step(memory, core, l2, &mut domains[d], now, end, mail)
 }
 
 /// A slot of domain `d`, from a clock on. Answers the clock after it, in cycles.
@@ -105,13 +108,15 @@ pub fn open_slot(
     d: usize,
     now: u64,
     end: u64,
+    mail: &mut Mail,
 ) -> u64
     requires domain { d < length domains.old }
-    requires stands { Stands d memory.old (system core.old l2.old) domains.old now }
+    requires stands { Stands d memory.old mail.old (system core.old l2.old) domains.old now }
     requires end { end < 2 ^ 62 }
     requires few { CountUpTo now domains.old }
     ensures becomes { Becomes (λ g i w. spec.open_slot g i d end w) d
-        memory.old (system core.old l2.old) domains.old now memory.new (system core.new l2.new) domains.new result }
+        memory.old mail.old (system core.old l2.old) domains.old now
+        memory.new mail.new (system core.new l2.new) domains.new result }
     ensures few { CountUpTo result domains.new }
     ensures same { length domains.new ≡ length domains.old }
     ensures over { now ≤ result }
@@ -121,7 +126,7 @@ pub fn open_slot(
 {
     let mut clock = now;
     while clock < end {
-        clock = step_among(memory, core, l2, domains, d, clock, end);
+        clock = step_among(memory, core, l2, domains, d, clock, end, mail);
     }
     clock
 }

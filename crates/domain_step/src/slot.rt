@@ -35,6 +35,7 @@ use call_table::DomainStatus;
 use domain_switch::charge;
 use kernel_call::{Domain, deliver};
 use l2_colour::L2;
+use mail_slots::Mail;
 use mem_system::OnCore;
 use phys_mem::PhysMem;
 use rv_core::{Effect, Exception, Trap, address, misalignment};
@@ -213,16 +214,19 @@ fn run_instruction<P: Policy>(
     domain: &mut Domain,
     spent: &mut u32,
     now: u64,
+    mail: &mut Mail,
 ) -> bool
     requires room { HasRoom domain.old }
     requires frames { memory.old.frames ≤ 2 ^ 15 }
-    requires runs { Runs P.rule P.stands_for memory.old domain.old (system core.old l2.old) now }
+    requires runs { Runs P.rule P.stands_for memory.old mail.old domain.old (system core.old l2.old) now }
     requires ready { is_ready domain.old.threads.active.state ≡ true }
     requires spent { spent.old < 2 ^ 28 }
     ensures leaves { (w : Setting) → Leaves w
         (event.instruction w.machine (estate w.machine w.own) w.clone now)
-        domain.old (KeptOf P.rule P.stands_for w domain.old memory.old (system core.old l2.old) spent.old)
-        domain.new (KeptOf P.rule P.stands_for w domain.new memory.new (system core.new l2.new) spent.new) }
+        domain.old (KeptOf P.rule P.stands_for w domain.old memory.old mail.old
+        (system core.old l2.old) spent.old)
+        domain.new (KeptOf P.rule P.stands_for w domain.new memory.new mail.new
+        (system core.new l2.new) spent.new) }
     ensures frames { memory.new.frames ≡ memory.old.frames }
     ensures grows { Grows (retired_by result) 1 2 domain.old domain.new }
     ensures moments { domain.new.interrupts.moments ≡ domain.old.interrupts.moments }
@@ -253,7 +257,7 @@ fn run_instruction<P: Policy>(
     };
     match instr {
         Instr::Ecall => {
-            *spent = call(memory, core, l2, domain, *spent);
+            *spent = call(memory, core, l2, domain, *spent, mail);
             false
         }
         Instr::Multiply {
@@ -341,20 +345,22 @@ fn run<P: Policy>(
     l2: &mut L2<P>,
     domain: &mut Domain,
     now: u64,
+    mail: &mut Mail,
 ) -> Ran
     requires frames { memory.old.frames ≤ 2 ^ 15 }
-    requires runs { Runs P.rule P.stands_for memory.old domain.old (system core.old l2.old) now }
+    requires runs { Runs P.rule P.stands_for memory.old mail.old domain.old (system core.old l2.old) now }
     requires plain { IsPlain domain.old now }
     requires early { now < 2 ^ 62 }
     requires few { CountsUpTo now domain.old }
     ensures becomes { (end : ℕ) → Moves P.rule P.stands_for (λ w. spec.step w end)
-        memory.old domain.old (system core.old l2.old) now memory.new domain.new
+        memory.old mail.old domain.old (system core.old l2.old) now memory.new mail.new domain.new
         (system core.new l2.new) result.clock }
     ensures frames { memory.new.frames ≡ memory.old.frames }
     ensures hierarchy { hierarchy_of P.rule (system core.new l2.new) ≡ hierarchy_of P.rule
         (system core.old l2.old) }
     ensures pinned { core.new.pinned ≡ core.old.pinned }
-    ensures runs { Runs P.rule P.stands_for memory.new domain.new (system core.new l2.new) result.clock }
+    ensures runs { Runs P.rule P.stands_for memory.new mail.new domain.new
+        (system core.new l2.new) result.clock }
     ensures few { CountsUpTo result.clock domain.new }
     ensures goes_on { result.goes_on ≡ true → GoesOn domain.old domain.new }
     ensures retired { domain.new.retired ≡ domain.old.retired + retired_by result.goes_on }
@@ -362,7 +368,7 @@ fn run<P: Policy>(
     ensures soon { result.clock ≤ now + most_event }
 {
     let mut spent = 0;
-    let goes_on = run_instruction(memory, core, l2, domain, &mut spent, now);
+    let goes_on = run_instruction(memory, core, l2, domain, &mut spent, now, mail);
     let clock = now + u64::from(core.costs().base) + u64::from(spent);
     Ran { clock, goes_on }
 }
@@ -395,25 +401,27 @@ fn wait_or_deliver<P: Policy>(
     domain: &mut Domain,
     now: u64,
     end: u64,
+    mail: &Mail,
 ) -> u64
-    requires runs { Runs P.rule P.stands_for memory.now domain.old (system core.old l2.old) now }
+    requires runs { Runs P.rule P.stands_for memory.now mail.now domain.old (system core.old l2.old) now }
     requires before { now < end }
     requires end { end < 2 ^ 62 }
     requires few { CountsUpTo now domain.old }
     requires other { IsOther domain.old now end }
     ensures becomes { Moves P.rule P.stands_for (λ w. spec.step w end)
-        memory.now domain.old (system core.old l2.old) now memory.now domain.new
+        memory.now mail.now domain.old (system core.old l2.old) now memory.now mail.now domain.new
         (system core.new l2.new) result }
     ensures hierarchy { hierarchy_of P.rule (system core.new l2.new) ≡ hierarchy_of P.rule
         (system core.old l2.old) }
     ensures pinned { core.new.pinned ≡ core.old.pinned }
-    ensures runs { Runs P.rule P.stands_for memory.now domain.new (system core.new l2.new) result }
+    ensures runs { Runs P.rule P.stands_for memory.now mail.now domain.new (system core.new l2.new) result }
     ensures few { CountsUpTo result domain.new }
     ensures later { now < result }
     ensures soon { result < end + most_event }
 {
-    // For the prover: what is said of memory.
+    // For the prover: what is said of memory and boxes.
     let _ = memory;
+    let _ = mail;
     let DomainStatus::Running = domain.status else {
         return end;
     };
@@ -444,21 +452,23 @@ fn run_plain<P: Policy>(
     domain: &mut Domain,
     now: u64,
     until: u64,
+    mail: &mut Mail,
 ) -> Advance
     requires frames { memory.old.frames ≤ 2 ^ 15 }
-    requires runs { Runs P.rule P.stands_for memory.old domain.old (system core.old l2.old) now }
+    requires runs { Runs P.rule P.stands_for memory.old mail.old domain.old (system core.old l2.old) now }
     requires plain { (t : ℕ) → t < until → IsPlain domain.old t }
     requires before { now < until }
     requires until { until < 2 ^ 62 }
     requires few { CountsUpTo now domain.old }
     ensures along { (end : ℕ) → MovesAlong P.rule P.stands_for end until result.events
-        memory.old domain.old (system core.old l2.old) now memory.new domain.new
+        memory.old mail.old domain.old (system core.old l2.old) now memory.new mail.new domain.new
         (system core.new l2.new) result.clock }
     ensures frames { memory.new.frames ≡ memory.old.frames }
     ensures hierarchy { hierarchy_of P.rule (system core.new l2.new) ≡ hierarchy_of P.rule
         (system core.old l2.old) }
     ensures pinned { core.new.pinned ≡ core.old.pinned }
-    ensures runs { Runs P.rule P.stands_for memory.new domain.new (system core.new l2.new) result.clock }
+    ensures runs { Runs P.rule P.stands_for memory.new mail.new domain.new
+        (system core.new l2.new) result.clock }
     ensures few { CountsUpTo result.clock domain.new }
     ensures later { now < result.clock }
     ensures apart { now + result.events ≤ result.clock }
@@ -468,7 +478,7 @@ fn run_plain<P: Policy>(
     let mut clock = now;
     let mut goes_on = true;
     while goes_on && clock < until {
-        let ran = run(memory, core, l2, domain, clock);
+        let ran = run(memory, core, l2, domain, clock, mail);
         clock = ran.clock;
         goes_on = ran.goes_on;
     }
@@ -502,26 +512,28 @@ pub fn run_until<P: Policy>(
     now: u64,
     until: u64,
     end: u64,
+    mail: &mut Mail,
 ) -> Advance
     requires frames { memory.old.frames ≤ 2 ^ 15 }
-    requires runs { Runs P.rule P.stands_for memory.old domain.old (system core.old l2.old) now }
+    requires runs { Runs P.rule P.stands_for memory.old mail.old domain.old (system core.old l2.old) now }
     requires within { until ≤ end }
     requires end { end < 2 ^ 62 }
     requires few { CountsUpTo now domain.old }
     ensures along { MovesAlong P.rule P.stands_for end until result.events
-        memory.old domain.old (system core.old l2.old) now memory.new domain.new
+        memory.old mail.old domain.old (system core.old l2.old) now memory.new mail.new domain.new
         (system core.new l2.new) result.clock }
     ensures once { until ≡ now + 1 → Moves P.rule P.stands_for (λ w. spec.step w end)
-        memory.old domain.old (system core.old l2.old) now memory.new domain.new
+        memory.old mail.old domain.old (system core.old l2.old) now memory.new mail.new domain.new
         (system core.new l2.new) result.clock }
     ensures whole { until ≡ end → Moves P.rule P.stands_for (λ w. spec.stretch w end)
-        memory.old domain.old (system core.old l2.old) now memory.new domain.new
+        memory.old mail.old domain.old (system core.old l2.old) now memory.new mail.new domain.new
         (system core.new l2.new) result.clock }
     ensures frames { memory.new.frames ≡ memory.old.frames }
     ensures hierarchy { hierarchy_of P.rule (system core.new l2.new) ≡ hierarchy_of P.rule
         (system core.old l2.old) }
     ensures pinned { core.new.pinned ≡ core.old.pinned }
-    ensures runs { Runs P.rule P.stands_for memory.new domain.new (system core.new l2.new) result.clock }
+    ensures runs { Runs P.rule P.stands_for memory.new mail.new domain.new
+        (system core.new l2.new) result.clock }
     ensures few { CountsUpTo result.clock domain.new }
     ensures over { until ≤ result.clock }
     ensures soon { now < until → result.clock < end + most_event }
@@ -535,11 +547,11 @@ pub fn run_until<P: Policy>(
     while clock < until {
         let plain = plain_until(domain, until);
         if clock < plain {
-            let ran = run_plain(memory, core, l2, domain, clock, plain);
+            let ran = run_plain(memory, core, l2, domain, clock, plain, mail);
             clock = ran.clock;
             events += ran.events;
         } else {
-            clock = wait_or_deliver(memory, core, l2, domain, clock, end);
+            clock = wait_or_deliver(memory, core, l2, domain, clock, end, mail);
             events += 1;
         }
     }
@@ -554,25 +566,26 @@ pub fn step<P: Policy>(
     domain: &mut Domain,
     now: u64,
     end: u64,
+    mail: &mut Mail,
 ) -> u64
     requires frames { memory.old.frames ≤ 2 ^ 15 }
-    requires runs { Runs P.rule P.stands_for memory.old domain.old (system core.old l2.old) now }
+    requires runs { Runs P.rule P.stands_for memory.old mail.old domain.old (system core.old l2.old) now }
     requires before { now < end }
     requires end { end < 2 ^ 62 }
     requires few { CountsUpTo now domain.old }
     ensures becomes { Moves P.rule P.stands_for (λ w. spec.step w end)
-        memory.old domain.old (system core.old l2.old) now memory.new domain.new
+        memory.old mail.old domain.old (system core.old l2.old) now memory.new mail.new domain.new
         (system core.new l2.new) result }
     ensures frames { memory.new.frames ≡ memory.old.frames }
     ensures hierarchy { hierarchy_of P.rule (system core.new l2.new) ≡ hierarchy_of P.rule
         (system core.old l2.old) }
     ensures pinned { core.new.pinned ≡ core.old.pinned }
-    ensures runs { Runs P.rule P.stands_for memory.new domain.new (system core.new l2.new) result }
+    ensures runs { Runs P.rule P.stands_for memory.new mail.new domain.new (system core.new l2.new) result }
     ensures few { CountsUpTo result domain.new }
     ensures later { now < result }
     ensures soon { result < end + most_event }
 {
-    run_until(memory, core, l2, domain, now, now + 1, end).clock
+    run_until(memory, core, l2, domain, now, now + 1, end, mail).clock
 }
 
 /// Events while the clock is below the end. Answers the clock after them.
@@ -584,23 +597,24 @@ pub fn stretch<P: Policy>(
     domain: &mut Domain,
     now: u64,
     end: u64,
+    mail: &mut Mail,
 ) -> u64
     requires frames { memory.old.frames ≤ 2 ^ 15 }
-    requires runs { Runs P.rule P.stands_for memory.old domain.old (system core.old l2.old) now }
+    requires runs { Runs P.rule P.stands_for memory.old mail.old domain.old (system core.old l2.old) now }
     requires end { end < 2 ^ 62 }
     requires few { CountsUpTo now domain.old }
     ensures becomes { Moves P.rule P.stands_for (λ w. spec.stretch w end)
-        memory.old domain.old (system core.old l2.old) now memory.new domain.new
+        memory.old mail.old domain.old (system core.old l2.old) now memory.new mail.new domain.new
         (system core.new l2.new) result }
     ensures frames { memory.new.frames ≡ memory.old.frames }
     ensures hierarchy { hierarchy_of P.rule (system core.new l2.new) ≡ hierarchy_of P.rule
         (system core.old l2.old) }
     ensures pinned { core.new.pinned ≡ core.old.pinned }
-    ensures runs { Runs P.rule P.stands_for memory.new domain.new (system core.new l2.new) result }
+    ensures runs { Runs P.rule P.stands_for memory.new mail.new domain.new (system core.new l2.new) result }
     ensures few { CountsUpTo result domain.new }
     ensures over { end ≤ result }
     ensures soon { now < end → result < end + most_event }
     ensures done { end ≤ now → result ≡ now }
 {
-    run_until(memory, core, l2, domain, now, end, end).clock
+    run_until(memory, core, l2, domain, now, end, end, mail).clock
 }

@@ -15,23 +15,31 @@ use Rattle.hart_machine.specs.HartMachine.{SameParts, SameHart, SameNobodys, Sam
 
 module _ (p : Hardware) (o : Own) where
   pub within_itself : (x : Local) → Within p o x x
-  within_itself x = record { dom = refl; part = record { frames = λ f own. refl; sets = λ s own. refl }; core = refl; clock = refl }
+  within_itself x = record { dom = refl; part = record { frames = λ f own. refl; side = refl; sets = λ s own. refl }; core = refl; clock = refl }
 
   pub within_back : (x y : Local) → Within p o x y → Within p o y x
   within_back x y h = record {
     dom = sym h.dom;
-    part = record { frames = λ f own. sym (h.part.frames f own); sets = λ s own. sym (h.part.sets s own) };
+    part = record {
+      frames = λ f own. sym (h.part.frames f own);
+      side = sym h.part.side;
+      sets = λ s own. sym (h.part.sets s own);
+    };
     core = sym h.core;
     clock = sym h.clock;
   }
 
   pub apiece_itself : (x : Local) → Apiece p o x x
-  apiece_itself x = record { dom = refl; part = record { frames = λ f own. refl; sets = λ s own. refl } }
+  apiece_itself x = record { dom = refl; part = record { frames = λ f own. refl; side = refl; sets = λ s own. refl } }
 
   pub apiece_back : (x y : Local) → Apiece p o x y → Apiece p o y x
   apiece_back x y h = record {
     dom = sym h.dom;
-    part = record { frames = λ f own. sym (h.part.frames f own); sets = λ s own. sym (h.part.sets s own) };
+    part = record {
+      frames = λ f own. sym (h.part.frames f own);
+      side = sym h.part.side;
+      sets = λ s own. sym (h.part.sets s own);
+    };
   }
 
   pub apiece_of : (x y : Local) → Within p o x y → Apiece p o x y
@@ -97,10 +105,17 @@ nobodys_itself i w = record { frames = λ f none. refl; sets = λ x none. refl; 
 
 pub same_shared : (i : Image) → IsEquality Harts (SameShared i)
 same_shared i = record {
-  itself = λ s. record { used = refl; nobodys = nobodys_itself i s.world };
+  itself = λ s. record { used = refl; came = refl; waiting = refl; nobodys = nobodys_itself i s.world };
   back = λ s t e. record {
     used = sym e.used;
+    came = sym e.came;
+    waiting = sym e.waiting;
     nobodys = nobodys_back i s.world t.world e.nobodys;
   };
-  on = λ s t u e f. record { used = e.used ∙ f.used; nobodys = nobodys_on i s.world t.world u.world e.nobodys f.nobodys };
+  on = λ s t u e f. record {
+    used = e.used ∙ f.used;
+    came = e.came ∙ f.came;
+    waiting = e.waiting ∙ f.waiting;
+    nobodys = nobodys_on i s.world t.world u.world e.nobodys f.nobodys;
+  };
 }

@@ -1,10 +1,11 @@
 -- What a hart's event makes of the world, of its progress and of the switches' cycles.
-use Rattle.std.proofs.Common.{None, ◌≡◌, ℕ, suc, Bool, true, false, true≢false, ltb, [], ◌∷◌, ◌++◌, ap, sym, ◌∙◌, refl, ◌<◌}
+use Rattle.std.proofs.Common.{None, ◌≡◌, ℕ, suc, Bool, true, false, true≢false, ltb, [], ◌∷◌, ◌++◌, Option, ap, sym, ◌∙◌, refl, ◌<◌}
 use Rattle.std.specs.Prelude.{if◌then◌else◌}
-use Rattle.sched_table.specs.Schedule.{switch_entry, place_on}
+use Rattle.sched_table.specs.Schedule.{switch_entry, place_on, outgoing}
 use Rattle.image_check.specs.Image.{Image}
+use Rattle.world_view.specs.Mail.{switched_boxes, came_to}
 use Rattle.world_view.specs.Machine.{World, clock_of, with_part, with_hart, guarded, switch_on, cycles_on}
-use Rattle.world_view.specs.Harts.{Harts, Progress, image_on, end_on, progress_of, slots_of, proceeds, begins, runs, goes_on, next, next_by, settles}
+use Rattle.world_view.specs.Harts.{Harts, Progress, image_on, domain_in, end_on, progress_of, slots_of, proceeds, begins, runs, goes_on, next, next_by, settles}
 use Rattle.world_view.proofs.harts.Runs.{progress-same}
 use Rattle.world_view.proofs.harts.Events.{begun_world, begins_in}
 use Rattle.world_view.proofs.harts.Always.{next_out}
@@ -68,6 +69,13 @@ module _ (i : Image) (h : ℕ) (s : Harts) where
   pub works_used : (progress_of h s).inside ≡ true → (next i h s).world.used ≡ s.world.used
   works_used now = ap (λ (w : World). w.used) (works_world now) ∙ ran_used
 
+  ran_came : ran.came ≡ s.world.came
+  unfolding runs with_part with_hart guarded
+  ran_came = refl
+
+  pub works_came : (progress_of h s).inside ≡ true → (next i h s).world.came ≡ s.world.came
+  works_came now = ap (λ (w : World). w.came) (works_world now) ∙ ran_came
+
   -- ---- a switch
 
   pub turns_progress : (progress_of h s).inside ≡ false → clock_of h (begun_world i h s) < end_on i h k
@@ -89,3 +97,23 @@ module _ (i : Image) (h : ℕ) (s : Harts) where
   pub turns_used : (progress_of h s).inside ≡ false
       → (next i h s).world.used ≡ s.world.used ++ (place k, cycles k s.world) ∷ []
   turns_used out = ap (λ (w : World). w.used) (next_out i h s out) ∙ begun_used
+
+  -- who leaves, and who enters
+  abbrev pub leaving : ℕ → Option ℕ
+  leaving n = outgoing (image_on i h).all.schedule n
+
+  begun_boxes : (begun_world i h s).storage.boxes ≡ switched_boxes (leaving k) (domain_in i h k) s.world.storage.boxes
+  unfolding switch_on with_hart
+  begun_boxes = refl
+
+  pub turns_boxes : (progress_of h s).inside ≡ false
+      → (next i h s).world.storage.boxes ≡ switched_boxes (leaving k) (domain_in i h k) s.world.storage.boxes
+  turns_boxes out = ap (λ (w : World). w.storage.boxes) (next_out i h s out) ∙ begun_boxes
+
+  begun_came : (begun_world i h s).came ≡ s.world.came ++ came_to (leaving k) (domain_in i h k) s.world.storage.boxes ∷ []
+  unfolding switch_on with_hart
+  begun_came = refl
+
+  pub turns_came : (progress_of h s).inside ≡ false
+      → (next i h s).world.came ≡ s.world.came ++ came_to (leaving k) (domain_in i h k) s.world.storage.boxes ∷ []
+  turns_came out = ap (λ (w : World). w.came) (next_out i h s out) ∙ begun_came

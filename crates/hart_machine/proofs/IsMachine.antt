@@ -4,21 +4,24 @@ use Rattle.event_orders.specs.Machine.{IsMachine}
 use Rattle.image_check.specs.Image.{Image}
 use Rattle.image_check.specs.Laws.{Runnable}
 use Rattle.sched_table.specs.Schedule.{harts_in}
+use Rattle.mail_slots.specs.Sides.{Arrival}
+use Rattle.world_view.specs.Mail.{Came, switched_boxes, came_to}
 use Rattle.world_view.specs.Machine.{Hart, World, caches_of, clock_of, noted}
 use Rattle.world_view.specs.Relations.{Resident, InTime}
-use Rattle.world_view.specs.Harts.{Harts, Progress, image_on, end_on, progress_of, slots_of, runs, next, harts}
+use Rattle.world_view.specs.Harts.{Harts, Progress, image_on, domain_in, end_on, progress_of, slots_of, runs, next, harts}
 use Rattle.world_view.proofs.harts.Events.{switched}
 use Rattle.world_view.proofs.harts.Runs.{next_so}
 use Rattle.world_view.proofs.harts.Clocks.{hart_stays}
 use Rattle.world_view.proofs.harts.Events.{begun_world}
 use Rattle.world_view.proofs.harts.Always.{next_out}
-use Rattle.hart_machine.specs.HartMachine.{IsReached, SameParts, SameHart, SameNobodys, SameShared, machine_of}
+use Rattle.hart_machine.specs.HartMachine.{IsReached, SameParts, SameHart, waiting, SameNobodys, SameShared, machine_of}
+use Rattle.hart_machine.proofs.Boxes.{SameLeaving, comes_alike, switched_alike}
 use Rattle.hart_machine.proofs.Equal.{same_hart, nobodys_back, nobodys_on, same_shared}
-use Rattle.hart_machine.proofs.Work.{IsIn, runs_leaves, runs_same}
-use Rattle.hart_machine.proofs.Turns.{switched_same}
+use Rattle.hart_machine.proofs.Work.{IsIn, runs_leaves, runs_waiting, runs_same}
+use Rattle.hart_machine.proofs.Turns.{leaving_same, switched_same}
 use Rattle.hart_machine.proofs.Costs.{switched_leaves, cycles_alike}
 use Rattle.hart_machine.proofs.Events as events
-use Rattle.hart_machine.proofs.Events.{stands, is_early, place, cycles, works_world, works_progress, works_used, turns_progress, turns_used}
+use Rattle.hart_machine.proofs.Events.{stands, is_early, place, cycles, works_world, works_progress, works_used, works_came, leaving, turns_progress, turns_used, turns_boxes, turns_came}
 use Rattle.hart_machine.proofs.Reached as reached
 use Rattle.hart_machine.proofs.Reached.{next_reached, first_of, none_used, run, is_in, is_in_time, begun_soon}
 
@@ -27,7 +30,7 @@ noted_same : (i : Image) (h e f c d : ℕ) (w v : World) → SameParts i h w v �
 noted_same i h e f c d w v same = record {
   hart = same.hart;
   domains = λ x id home. let a = same.domains x id home in
-      record { dom = a.dom; part = record { frames = a.part.frames; sets = a.part.sets } };
+      record { dom = a.dom; part = a.part };
 }
 
 module _ (i : Image) (r : Runnable i) where
@@ -37,6 +40,10 @@ module _ (i : Image) (r : Runnable i) where
       → SameShared i (next i h s) s
   work_shared h s there a now = record {
     used = works_used i h s now;
+    came = works_came i h s now;
+    waiting =
+        ap (λ (w : World). waiting w.storage.boxes) (works_world i h s now)
+        ∙ runs_waiting i r h there (slots_of h s) s.world (is_in i r s a h there now);
     nobodys = subst (λ (w : World). SameNobodys i w s.world) (sym (works_world i h s now))
         (runs_leaves i r h there (slots_of h s) s.world (is_in i r s a h there now));
   }
@@ -59,7 +66,7 @@ module _ (i : Image) (r : Runnable i) where
         parts = record {
           hart = stays.hart;
           domains = λ d id home. let its = left d id (λ q. ne (sym home ∙ sym q)) in
-              record { dom = its.dom; part = record { frames = its.part.frames; sets = its.part.sets } };
+              record { dom = its.dom; part = record { frames = its.part.frames; side = its.part.side; sets = its.part.sets } };
         };
         progress = stays.progress;
       }
@@ -111,22 +118,45 @@ module _ (i : Image) (r : Runnable i) where
       time_too : InTime (image_on i h) h k t.world
       time_too = subst (λ (n : ℕ). InTime (image_on i h) h n t.world) slots (is_in_time i r t b h there out_too)
 
-      begun_same : SameParts i h (begun_world i h s) (begun_world i h t)
-      begun_same =
+      begun_same : waiting s.world.storage.boxes ≡ waiting t.world.storage.boxes
+          → SameParts i h (begun_world i h s) (begun_world i h t)
+      begun_same waits =
           subst (λ (n : ℕ). SameParts i h (begun_world i h s)
           (noted (place i h t n) (cycles i h t n t.world) (switched i r h there n t.world))) (sym slots)
           (noted_same i h _ _ _ _ (switched i r h there k s.world) (switched i r h there k t.world)
-          (switched_same i r h there k s.world t.world (is_in_time i r s a h there out) time_too same.parts))
+          (switched_same i r h there k s.world t.world (is_in_time i r s a h there out) time_too same.parts waits))
 
-      pub turn : SameHart i h (next i h s) (next i h t)
-      turn = record {
+      pub turn : waiting s.world.storage.boxes ≡ waiting t.world.storage.boxes → SameHart i h (next i h s) (next i h t)
+      turn waits = record {
         parts =
             subst (λ (w : World). SameParts i h w (next i h t).world) (sym (next_out i h s out))
-            (subst (SameParts i h (begun_world i h s)) (sym (next_out i h t out_too)) begun_same);
+            (subst (SameParts i h (begun_world i h s)) (sym (next_out i h t out_too)) (begun_same waits));
         progress = turns_progress i h s out (begun_soon i r s a h there out)
             ∙ ap (λ (n : ℕ). record { slots = n; inside = true }) (sym slots)
             ∙ sym (turns_progress i h t out_too (begun_soon i r t b h there out_too));
       }
+
+      -- ---- boxes, and what came in them
+
+      sides : SameLeaving (leaving i h s k) s.world.storage.boxes t.world.storage.boxes
+      sides = leaving_same i r h there k s.world t.world same.parts
+
+      waits_alike : waiting s.world.storage.boxes ≡ waiting t.world.storage.boxes
+          → waiting (next i h s).world.storage.boxes ≡ waiting (next i h t).world.storage.boxes
+      waits_alike waits =
+          ap waiting (turns_boxes i h s out)
+          ∙ switched_alike (leaving i h s k) s.world.storage.boxes t.world.storage.boxes waits sides (domain_in i h k)
+          ∙ ap (λ (n : ℕ). waiting (switched_boxes (leaving i h t n) (domain_in i h n) t.world.storage.boxes)) (sym slots)
+          ∙ sym (ap waiting (turns_boxes i h t out_too))
+
+      came_alike : SameShared i s t → (next i h s).world.came ≡ (next i h t).world.came
+      came_alike shared =
+          let words =
+          comes_alike (leaving i h s k) s.world.storage.boxes t.world.storage.boxes shared.waiting sides (domain_in i h k) in
+          turns_came i h s out
+          ∙ ap₂ (λ (xs : List Came) (ws : Arrival). xs ++ record { domain = domain_in i h k; words = ws } ∷ []) shared.came words
+          ∙ ap (λ (n : ℕ). t.world.came ++ came_to (leaving i h t n) (domain_in i h n) t.world.storage.boxes ∷ []) (sym slots)
+          ∙ sym (turns_came i h t out_too)
 
       -- ---- what it took
 
@@ -156,6 +186,8 @@ module _ (i : Image) (r : Runnable i) where
             ∙ ap₂ (λ (us : List (ℕ × ℕ)) (c : ℕ). us ++ (place i h s k, c) ∷ []) shared.used (took_alike here here_too)
             ∙ ap (λ (n : ℕ). t.world.used ++ (place i h t n, cycles i h t (slots_of h t) t.world) ∷ []) (sym slots)
             ∙ sym (turns_used i h t out_too);
+        came = came_alike shared;
+        waiting = waits_alike shared.waiting;
         nobodys =
             nobodys_on i (next i h s).world s.world (next i h t).world (turn_leaves h s there a out here)
             (nobodys_on i s.world t.world (next i h t).world shared.nobodys
@@ -180,7 +212,7 @@ module _ (i : Image) (r : Runnable i) where
     others = λ g h s there ne a. others g h s there ne a;
     work = λ h s t there a b now same. work h s t there a b same now;
     work_shared = work_shared;
-    turn = λ h s t there a b out same shared. turn h s t there a b same out;
+    turn = λ h s t there a b out same shared. turn h s t there a b same out shared.waiting;
     turn_shared = λ h s t there a b out same shared. turn_shared h s t there a b same out shared;
     rises = λ h s there a. reached.rises i r s a h there;
     early = λ h s there a now. reached.early i r s a h there now;

@@ -1,3 +1,4 @@
+pub mod Boxes
 pub mod Equal
 pub mod Work
 pub mod Turns

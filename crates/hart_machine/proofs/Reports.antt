@@ -30,6 +30,7 @@ module _ (i : Image) (r : Runnable i) where
         let same = (a.each (hart_of_domain i d) (home i r d)).parts.domains d id refl in
         same_view i.all.hardware (own_of i d) _ _ _ _ same.dom same.part.frames;
     used = a.shared.used;
+    came = a.shared.came;
     clocks = λ h there. ap (λ (x : Hart). x.clock) (a.each h there).parts.hart;
   }
 

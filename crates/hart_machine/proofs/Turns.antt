@@ -1,5 +1,5 @@
 -- A switch, from two worlds that are the same for its hart.
-use Rattle.std.proofs.Common.{◌≡◌, ◌≢◌, ◌⊎◌, inl, inr, ℕ, zero, suc, ◌<◌, List, Some, ap, sym, ◌∙◌, refl}
+use Rattle.std.proofs.Common.{◌≡◌, ◌≢◌, ◌⊎◌, inl, inr, ℕ, zero, suc, ◌<◌, List, Some, ap, sym, ◌∙◌, refl, subst}
 use Rattle.std.proofs.lemmas.Bool.{cases_eq}
 use Rattle.std.proofs.lemmas.Option.{same_Some}
 use Rattle.sched_table.specs.declared.schedule.Entry.{Entry}
@@ -8,7 +8,9 @@ use Rattle.hardware_check.specs.Hardware.{Hardware}
 use Rattle.image_check.specs.Own.{Own}
 use Rattle.image_check.specs.Image.{Image, own_of}
 use Rattle.image_check.specs.Laws.{Runnable}
-use Rattle.world_view.specs.Machine.{Hart, Local, World, hart_of, part_of, switch_on}
+use Rattle.mail_slots.specs.Sides.{Arrival, own_side, arrival}
+use Rattle.world_view.specs.Mail.{left_boxes}
+use Rattle.world_view.specs.Machine.{Hart, Local, World, hart_of, part_of, with_mail, switch_on, alone_enter, alone_out}
 use Rattle.world_view.specs.Relations.{IsDomain, Within, Apiece, InTime}
 use Rattle.world_view.specs.Harts.{image_on, domain_in, hart_of_domain}
 use Rattle.world_view.proofs.opening.Separate.{Separated}
@@ -17,7 +19,8 @@ use Rattle.world_view.proofs.runs.SwitchLaws.{switch_past, switch_in, switch_out
 use Rattle.world_view.proofs.harts.OnHart.{separated_on, hart_is}
 use Rattle.world_view.proofs.harts.Events.{switched}
 use Rattle.world_view.proofs.harts.Meets.{within_trans, apiece_trans}
-use Rattle.hart_machine.specs.HartMachine.{SameParts}
+use Rattle.hart_machine.specs.HartMachine.{SameParts, waiting}
+use Rattle.hart_machine.proofs.Boxes.{SameLeaving, comes_alike}
 use Rattle.hart_machine.proofs.Equal.{within_itself, within_back, apiece_itself, apiece_back, apiece_of, same_hart_by, near}
 
 -- who leaves is this domain, or it isn't
@@ -27,6 +30,17 @@ leaves_or es (suc k) d = elim (cases_eq (entry_of_slot es k).domain d) [
   | inl same ↦ inl (ap (λ (x : ℕ). Some x) same)
   | inr other ↦ inr (λ q. other (same_Some _ _ q))
 ]
+
+-- who leaves is of the hart, and so its side of the boxes is the same
+pub leaving_same : (i : Image) (r : Runnable i) (h : ℕ) (is : h < harts_in i.all.schedule) (k : ℕ) (w v : World)
+    → SameParts i h w v
+    → SameLeaving (outgoing (image_on i h).all.schedule k) w.storage.boxes v.storage.boxes
+leaving_same i r h is zero w v same = tt
+leaving_same i r h is (suc k) w v same =
+    let d = domain_in i h k in
+    let on = separated_on i r h is in
+    subst (λ (n : ℕ). own_side n w.storage.boxes ≡ own_side n v.storage.boxes) (on.numbered d (on.named k))
+    (same.domains d (on.named k) (hart_is i r h is k)).part.side
 
 module _ (i : Image) (r : Runnable i) (h : ℕ) (is : h < harts_in i.all.schedule) (k : ℕ) where
   abbrev p : Hardware
@@ -42,12 +56,20 @@ module _ (i : Image) (r : Runnable i) (h : ℕ) (is : h < harts_in i.all.schedul
   abbrev its : ℕ
   its = domain_in i h k
 
-  module _ (w v : World) (time : InTime on h k w) (time' : InTime on h k v) (same : SameParts i h w v) where
+  module _ (w v : World) (time : InTime on h k w) (time' : InTime on h k v) (same : SameParts i h w v)
+      (waits : waiting w.storage.boxes ≡ waiting v.storage.boxes) where
     abbrev w' : World
     w' = switched i r h is k w
 
     abbrev v' : World
     v' = switched i r h is k v
+
+    -- the same comes to whom it comes
+    comes : (d : ℕ) → arrival d (left_boxes (outgoing on.all.schedule k) w.storage.boxes)
+        ≡ arrival d (left_boxes (outgoing on.all.schedule k) v.storage.boxes)
+    comes =
+        comes_alike (outgoing on.all.schedule k) w.storage.boxes v.storage.boxes waits
+        (leaving_same i r h is k w v same)
 
     module _ (d : ℕ) (id : IsDomain i d) (home : hart_of_domain i d ≡ h) where
       abbrev o : Own
@@ -62,15 +84,27 @@ module _ (i : Image) (r : Runnable i) (h : ℕ) (is : h < harts_in i.all.schedul
       ahead : Within p o (part_of h d w) before
       ahead = near i h w v same d id home
 
+      -- with the words that come to it then
+      abbrev words : World → Arrival
+      words u = arrival d (left_boxes (outgoing on.all.schedule k) u.storage.boxes)
+
+      -- both are as the domain alone that enters so
+      entered_as : (a : Local) → Within p o (part_of h d w') (alone_enter on.all o k (words w) a)
+          → Within p o (part_of h d v') (alone_enter on.all o k (words v) a)
+          → Within p o (part_of h d w') (part_of h d v')
+      entered_as a one other =
+          within_trans p o (part_of h d w') (alone_enter on.all o k (words v) a) (part_of h d v')
+          (subst (λ (ws : Arrival). Within p o (part_of h d w') (alone_enter on.all o k ws a)) (comes d) one)
+          (within_back p o (part_of h d v') (alone_enter on.all o k (words v) a) other)
+
       enters_if : its ≡ d → (outgoing on.all.schedule k ≡ Some d) ⊎ (outgoing on.all.schedule k ≢ Some d)
           → Within p o (part_of h d w') (part_of h d v')
       enters_if e (inl out) =
-          within_trans p o (part_of h d w') _ (part_of h d v') (switch_both on r_on h k d id w before time out e ahead)
-          (within_back p o (part_of h d v') _ (switch_both on r_on h k d id v before time' out e itself))
+          entered_as (alone_out p o before) (switch_both on r_on h k d id w before time out e ahead)
+          (switch_both on r_on h k d id v before time' out e itself)
       enters_if e (inr not) =
-          within_trans p o (part_of h d w') _ (part_of h d v')
-          (switch_in on r_on h k d id w before time not e (apiece_of p o (part_of h d w) before ahead))
-          (within_back p o (part_of h d v') _ (switch_in on r_on h k d id v before time' not e (apiece_itself p o before)))
+          entered_as before (switch_in on r_on h k d id w before time not e (apiece_of p o (part_of h d w) before ahead))
+          (switch_in on r_on h k d id v before time' not e (apiece_itself p o before))
 
       stays_if : its ≢ d → (outgoing on.all.schedule k ≡ Some d) ⊎ (outgoing on.all.schedule k ≢ Some d)
           → Apiece p o (part_of h d w') (part_of h d v')
@@ -92,7 +126,7 @@ module _ (i : Image) (r : Runnable i) (h : ℕ) (is : h < harts_in i.all.schedul
 
     ended_left : (u : World) → (hart_of h (switched i r h is k u)).ended ≡ (hart_of h u).ended
     unfolding switch_on
-    ended_left u = ap (λ (x : Hart). x.ended) (hart-with h u _ _)
+    ended_left u = ap (λ (x : Hart). x.ended) (hart-with h (with_mail (outgoing on.all.schedule k) its u) _ _)
 
     pub switched_same : SameParts i h w' v'
     switched_same = record {

@@ -9,7 +9,7 @@ use Rattle.hardware_check.specs.Hardware.{Hardware}
 use Rattle.image_check.specs.Image.{Image, own_of}
 use Rattle.image_check.specs.Laws.{Runnable}
 use Rattle.world_view.specs.Machine.{guarded, Hart, World, hart_of, caches_of, dom_of, part_of, with_part, with_hart, setting, step}
-use Rattle.world_view.specs.Relations.{IsDomain, HasFacts, Resident, Within, Apiece}
+use Rattle.world_view.specs.Relations.{IsDomain, HasFacts, Resident, Beside, Within, Apiece}
 use Rattle.world_view.specs.Cost.{hierarchy, region, own_colour}
 use Rattle.world_view.specs.EventLaws.{step_touches}
 use Rattle.world_view.specs.Harts.{image_on, domain_in, end_on, hart_of_domain, runs}
@@ -18,7 +18,8 @@ use Rattle.world_view.proofs.steps.StepLaws.{step_near, step_may, step_caches}
 use Rattle.world_view.proofs.harts.OnHart.{separated_on, hart_is}
 use Rattle.world_view.proofs.harts.Events.{IsInside, ran-hart, step_leaves}
 use Rattle.world_view.proofs.harts.Meets.{within_trans, apiece_trans, moved}
-use Rattle.hart_machine.specs.HartMachine.{SameParts, SameNobodys}
+use Rattle.hart_machine.specs.HartMachine.{SameParts, waiting, SameNobodys}
+use Rattle.hart_machine.proofs.Boxes.{waiting_still}
 use Rattle.hart_machine.proofs.Equal.{within_itself, within_back, apiece_back, apiece_of, same_hart_by, near}
 
 module _ (i : Image) (r : Runnable i) (h : ℕ) (is : h < harts_in i.all.schedule) (k : ℕ) where
@@ -49,28 +50,40 @@ module _ (i : Image) (r : Runnable i) (h : ℕ) (is : h < harts_in i.all.schedul
       (places_stay_law (hierarchy p) (own_colour o) (region p) (step_touches p o (end_on i h k) s) s.caches kernel.shares
       (step_may p o kernel (end_on i h k) s c.facts) c.inside.dirty c.there)
 
+  -- beside itself
+  beside_itself : (u : World) → IsIn u → let s = part_of h its u in Beside p (own_of i its) s s s
+  beside_itself u c = record {
+    kernel = kernel_of (image_on i h) (separated_on i r h is) its named;
+    dom = refl;
+    facts = c.facts;
+    storage = record { same = λ f own. refl; outside = λ f out. refl; side = refl; others = refl };
+    caches = record {
+      core = refl;
+      dirty = c.inside.dirty;
+      l2 = record { same = λ x own. refl; resident = c.there; outside = λ x out kernels. refl };
+    };
+    clock = refl;
+  }
+
   -- and so does what is nobody's
   pub runs_leaves : (u : World) → IsIn u → SameNobodys i (runs None i h k u) u
   unfolding runs with_part with_hart guarded
   runs_leaves u c =
       let s = part_of h its u in
-      let stepped = step_near p (own_of i its) (end_on i h k) s s s (record {
-        kernel = kernel_of (image_on i h) (separated_on i r h is) its named;
-        dom = refl;
-        facts = c.facts;
-        storage = record { same = λ f own. refl; outside = λ f out. refl };
-        caches = record {
-          core = refl;
-          dirty = c.inside.dirty;
-          l2 = record { same = λ x own. refl; resident = c.there; outside = λ x out kernels. refl };
-        };
-        clock = refl;
-      }) in
+      let stepped = step_near p (own_of i its) (end_on i h k) s s s (beside_itself u c) in
       record {
         frames = λ f none. stepped.storage.outside f (none its named);
         sets = λ x none. stepped.caches.l2.outside x (none.none its named) none.not_kernel;
         kernels = ran_places u c;
       }
+
+  -- and what waits in boxes
+  pub runs_waiting : (u : World) → IsIn u → waiting (runs None i h k u).storage.boxes ≡ waiting u.storage.boxes
+  unfolding runs with_part with_hart guarded
+  runs_waiting u c =
+      let s = part_of h its u in
+      waiting_still (own_of i its).number _ u.storage.boxes
+      (step_near p (own_of i its) (end_on i h k) s s s (beside_itself u c)).storage.others
 
   module _ (w v : World) (a : IsIn w) (b : IsIn v) (same : SameParts i h w v) where
     abbrev w' : World

@@ -1,10 +1,11 @@
 -- An image's harts as a machine: what each of them has, and what their switches share.
-use Rattle.std.specs.Prelude.{◌≡◌, ◌≢◌, ℕ, false, List}
+use Rattle.std.specs.Prelude.{◌≡◌, ◌≢◌, ℕ, false, List, [], map}
 use Rattle.event_orders.specs.Machine.{Machine}
 use Rattle.phys_mem.specs.Mem.{frame_at}
 use Rattle.set_cache.specs.Cache.{set_at}
 use Rattle.l2_colour.specs.Colours.{colour_of_set}
 use Rattle.mem_system.specs.Sharing.{is_own_set, SameKernelPlaces}
+use Rattle.mail_slots.specs.Boxes.{Mailbox, Boxes}
 use Rattle.image_check.specs.Image.{Image, own_of}
 use Rattle.sched_table.specs.Schedule.{harts_in}
 use Rattle.world_view.specs.Frames.{own_frame}
@@ -20,7 +21,7 @@ pub record IsReached (i : Image) (s : Harts) : Type 0 where
   pub of_harts : AreHartsOf i order
   pub comes_to : s ≡ harts i order
 
--- equal in all that a hart and its domains have: its core and clock, and each domain's state, frames and sets
+-- equal in all that a hart and its domains have: its core and clock, and each domain's state, frames, side of the boxes and sets
 pub record SameParts (i : Image) (h : ℕ) (w v : World) : Type 0 where
   pub hart : hart_of h w ≡ hart_of h v
   pub domains : (d : ℕ) → IsDomain i d → hart_of_domain i d ≡ h
@@ -46,9 +47,19 @@ pub record SameNobodys (i : Image) (w v : World) : Type 0 where
       → set_at (hierarchy i.all.hardware).l2.ways w.l2 x ≡ set_at (hierarchy i.all.hardware).l2.ways v.l2 x
   pub kernels : SameKernelPlaces (hierarchy i.all.hardware) w.l2 v.l2
 
--- equal in what switches alone write, which is what each took, in their order; and in what is no domain's
+-- of a box: whom it leads from and to, and what waits in it
+abbrev pub waiting_part : Mailbox → Mailbox
+waiting_part b = record b { out = []; inbox = [] }
+
+unfoldable pub waiting : Boxes → Boxes
+waiting boxes = map waiting_part boxes
+
+-- equal in what switches alone write, which is what each took and what came with it, in their order, and what waits in boxes;
+-- and in what is no domain's
 pub record SameShared (i : Image) (s t : Harts) : Type 0 where
   pub used : s.world.used ≡ t.world.used
+  pub came : s.world.came ≡ t.world.came
+  pub waiting : waiting s.world.storage.boxes ≡ waiting t.world.storage.boxes
   pub nobodys : SameNobodys i s.world t.world
 
 abbrev pub machine_of : Image → Machine

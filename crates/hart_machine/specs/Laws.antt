@@ -45,10 +45,12 @@ event_by_event i n = by_events (machine_of i) n (enough i n) (harts i [])
 abbrev pub slot_by_slot : Image → ℕ → Ran Harts
 slot_by_slot i n = by_slots (machine_of i) n (enough i n) (harts i [])
 
--- the same is seen of each domain, switches took the same, in their order, and each hart's clock is the same
+-- the same is seen of each domain, switches took the same, and the same came with them, in their order, and each hart's clock
+-- is the same
 pub record SameReport (i : Image) (w v : World) : Type 0 where
   pub seen : (d : ℕ) → IsDomain i d → view_in i d w ≡ view_in i d v
   pub used : w.used ≡ v.used
+  pub came : w.came ≡ v.came
   pub clocks : (h : ℕ) → h < harts_in i.all.schedule → clock_of h w ≡ clock_of h v
 
 -- event by event a run comes to where the order of the least clock leads
@@ -102,8 +104,9 @@ DrawnBySlotsLaw = (i : Image) (seed n : ℕ) → Runnable i →
     let s = drawn_slot_by_slot i seed n in
     SameReport i (ran i (Drawn seed) n) s.world.world × ((h : ℕ) → h < harts_in i.all.schedule → owed_of h s ≡ 0)
 
--- ---- of each part: a hart's core and clock, its domains' states, frames and sets, what switches took, what is nobody's, and
--- the places of the second level's sets of the kernel's colour, if not the policy's lists of these
+-- ---- of each part: a hart's core and clock, its domains' states, frames, sides of the boxes and sets, what switches took, what
+-- came with them, what waits in boxes, what is nobody's, and the places of the second level's sets of the kernel's colour, if
+-- not the policy's lists of these
 
 abbrev pub PartsLaw : Type 0
 PartsLaw = (i : Image) → Runnable i → laws.SlotsLaw (machine_of i)

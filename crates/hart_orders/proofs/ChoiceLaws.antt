@@ -3,24 +3,31 @@ use Rattle.std.proofs.Common.{None, ◌≡◌, ◌∙◌, ℕ, ◌<◌, Bool, tr
 use Rattle.sched_table.specs.Schedule.{harts_in}
 use Rattle.image_check.specs.Image.{Image}
 use Rattle.image_check.specs.Laws.{Runnable}
-use Rattle.world_view.specs.Machine.{whole}
-use Rattle.world_view.specs.Harts.{progress_of, harts, view_on, view_alone_on, hart_of_domain}
+use Rattle.world_view.specs.Machine.{whole, arrivals}
+use Rattle.world_view.specs.Harts.{progress_of, harts, view_on, view_mailed_on, view_alone_on, hart_of_domain}
 use Rattle.world_view.specs.HartLaws.{AreHartsOf, IsBetween}
 use Rattle.world_view.specs.Laws.{SameWorld}
 use Rattle.world_view.proofs.harts.Runs.{home}
-use Rattle.world_view.proofs.harts.Isolation.{hart_isolation, hart_pads, hart_largest}
+use Rattle.world_view.proofs.harts.Isolation.{hart_mail, hart_isolation, hart_pads, hart_largest}
 use Rattle.world_view.proofs.harts.Clocks.{hart_begun}
 use Rattle.world_view.proofs.harts.Whole.{whole_law}
 use Rattle.hart_orders.specs.Order.{order_of, ran}
-use Rattle.hart_orders.specs.Laws.{ChoiceLaw, ChoicePadLaw, ChoiceLargestLaw, OneHartLaw}
+use Rattle.hart_orders.specs.Laws.{ChoiceMailLaw, ChoiceLaw, ChoicePadLaw, ChoiceLargestLaw, OneHartLaw}
 use Rattle.hart_orders.proofs.RunThrough.{harts_law, through}
+
+pub choice_mail : ChoiceMailLaw
+unfolding ran view_on
+choice_mail i c n d r id =
+    let order = order_of i c n in
+    let there = through i c n (hart_of_domain i d) r (home i r d) in
+    hart_mail i d order r id (harts_law i c n) there.1
+    ∙ ap (view_mailed_on i d (arrivals d (harts i order).world)) there.0
 
 pub choice_law : ChoiceLaw
 unfolding ran view_on
-choice_law i c n d r id =
-    let h = hart_of_domain i d in
-    let there = through i c n h r (home i r d) in
-    hart_isolation i d (order_of i c n) r id (harts_law i c n) there.1 ∙ ap (view_alone_on i d) there.0
+choice_law i c n d r id none =
+    let there = through i c n (hart_of_domain i d) r (home i r d) in
+    hart_isolation i d (order_of i c n) r id none (harts_law i c n) there.1 ∙ ap (view_alone_on i d) there.0
 
 pub choice_pad : ChoicePadLaw
 unfolding ran

@@ -1,6 +1,6 @@
 -- What holds of an image's harts after every order of events, also where a guard is off: each domain's facts, how far each hart
 -- is, how many switches there were, and what an event leaves of another hart.
-use Rattle.std.proofs.Common.{◌≡◌, ◌≢◌, ◌∙◌, ℕ, zero, suc, ◌+◌, ◌<◌, ◌≤◌, Bool, true, false, true≢false, List, [], ◌∷◌, ◌++◌, length, ltb, ltb-true, Option, Some, None, inl, inr, ◌⊎◌, refl, sym, ap, subst, subst₂, arith}
+use Rattle.std.proofs.Common.{◌≡◌, ◌≢◌, ◌∙◌, ℕ, zero, suc, ◌+◌, ◌<◌, ◌≤◌, Bool, true, false, true≢false, List, [], ◌∷◌, ◌++◌, length, ltb, ltb-true, Option, Some, None, inl, inr, ◌⊎◌, refl, sym, ap, subst, arith}
 use Rattle.std.specs.Prelude.{if◌then◌else◌}
 use Rattle.std.specs.List.{All}
 use Rattle.std.proofs.lemmas.Bool.{cases_eq, ltb-false}
@@ -8,9 +8,9 @@ use Rattle.std.proofs.lemmas.List.Elements.{All-head, All-tail}
 use Rattle.tp_base.specs.Table.{at, put, at-put_same, at-put_other, at-empty}
 use Rattle.guards.specs.declared.Guard.{Guard}
 use Rattle.guards.specs.declared.Guard.TheVariants as guard
-use Rattle.sched_table.specs.Schedule.{entry_in, entry_of_slot, switch_entry, place_on, harts_in}
+use Rattle.sched_table.specs.Schedule.{entry_in, switch_entry, place_on, harts_in}
 use Rattle.sched_table.proofs.Harts.{hart_there_law, domain_hart_law}
-use Rattle.image_check.specs.Image.{Image, own_of}
+use Rattle.image_check.specs.Image.{Image}
 use Rattle.image_check.specs.Laws.{Runnable}
 use Rattle.call_table.specs.Domain.{is_running}
 use Rattle.world_view.specs.Machine.{Hart, World, Guards, guarded, guards_of, no_hart, Owned, clock_of, ended_of, dom_of, ended_by, ends_by, with_part, with_hart, with_end, delivered_or_step, step_among, first_due, event_if, noted, cycles_on, switch_on, with_cold}
@@ -250,7 +250,7 @@ module _ (off : Option Guard) (i : Image) (r : Runnable i) (one : IsOnOneHart i)
       (settles_so s (begun_by off i r 0 s) k
       (noted_if q0.pad w (ends_by q0 own k (clock_of 0 w)) k
       (record {
-        facts = was.facts;
+        facts = λ d id. let its = was.facts d id in record { facts = its.facts; rights = its.rights };
         counted = λ e there.
             let few : count_of e s.world.used ≤ k =
             subst (λ (b : Bool). count_of e s.world.used ≤ (if b then k + 1 else k)) outside (counted_here s was e there) in

@@ -9,7 +9,7 @@ use Rattle.sched_table.specs.Schedule.{harts_in}
 use Rattle.image_check.specs.Image.{Image}
 use Rattle.image_check.specs.Laws.{Runnable}
 use Rattle.world_view.specs.Kernel.{no_dom}
-use Rattle.world_view.specs.Machine.{World, Local, Setting, Guards, guards_of, setting_by, step, stretch, dom_of, clock_of, ended_of, part_of, with_part, with_hart, own_step, event_if, step_among, open_slot}
+use Rattle.world_view.specs.Machine.{World, Local, Setting, Guards, guards_of, setting_by, step, stretch, dom_of, clock_of, ended_of, part_of, with_part, with_hart, event_if, step_among, open_slot}
 use Rattle.world_view.specs.Harts.{Harts, Progress, IsInSlot, progress_of, domain_in, end_by, proceeds, runs, next_by, after_by, harts_by, settles}
 use Rattle.world_view.specs.HartLaws.{LeftAlone}
 use Rattle.world_view.proofs.opening.Separate.{separated}
@@ -78,6 +78,7 @@ module _ (off : Option Guard) (i : Image) (r : Runnable i) (served : IsServed of
     dom = more.dom ∙ one.dom;
     part = record {
       frames = λ f own. more.part.frames f own ∙ one.part.frames f own;
+      side = more.part.side ∙ one.part.side;
       sets = λ x own. more.part.sets x own ∙ one.part.sets x own;
     };
     hart = more.hart ∙ one.hart;
@@ -87,7 +88,7 @@ module _ (off : Option Guard) (i : Image) (r : Runnable i) (served : IsServed of
   left_here : (d : ℕ) (s : Harts) → LeftAlone i d s s
   left_here d s = record {
     dom = refl;
-    part = record { frames = λ f own. refl; sets = λ x own. refl };
+    part = record { frames = λ f own. refl; side = refl; sets = λ x own. refl };
     hart = refl;
     progress = refl;
   }

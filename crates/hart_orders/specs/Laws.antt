@@ -3,11 +3,11 @@ use Rattle.std.specs.Prelude.{◌≡◌, ◌≢◌, ◌⊎◌, ℕ, ◌<◌, ◌
 use Rattle.sched_table.specs.Schedule.{entry_in, harts_in}
 use Rattle.image_check.specs.Image.{Image}
 use Rattle.image_check.specs.Laws.{Runnable}
-use Rattle.world_view.specs.Machine.{clock_of, whole}
+use Rattle.world_view.specs.Machine.{clock_of, whole, arrivals}
 use Rattle.world_view.specs.Used.{largest_of}
 use Rattle.world_view.specs.View.{view_in}
-use Rattle.world_view.specs.Relations.{IsDomain, AllWithinPads}
-use Rattle.world_view.specs.Harts.{Harts, IsOnOneHart, slots_of, harts, view_alone_on}
+use Rattle.world_view.specs.Relations.{IsDomain, HasNoMail, AllWithinPads}
+use Rattle.world_view.specs.Harts.{Harts, IsOnOneHart, slots_of, harts, view_mailed_on, view_alone_on}
 use Rattle.world_view.specs.HartLaws.{AreHartsOf, IsBetween}
 use Rattle.world_view.specs.Laws.{SameWorld}
 use Rattle.hart_orders.specs.Order.{next_hart, order_of, ran}
@@ -52,9 +52,15 @@ ThroughLaw = (i : Image) (c : Choice) (n h : ℕ) → Runnable i → h < harts_i
 
 -- ---- what is seen then
 
--- whatever the choice, of each domain what is seen of it alone, by the entries of its hart
+-- whatever the choice, of each domain what is seen of it alone, by the entries of its hart, with what came in boxes as its
+-- slots began
+abbrev pub ChoiceMailLaw : Type 0
+ChoiceMailLaw = (i : Image) (c : Choice) (n d : ℕ) → Runnable i → IsDomain i d
+    → view_in i d (ran i c n) ≡ view_mailed_on i d (arrivals d (ran i c n)) n
+
+-- where no box leads to it, alone with nothing that comes
 abbrev pub ChoiceLaw : Type 0
-ChoiceLaw = (i : Image) (c : Choice) (n d : ℕ) → Runnable i → IsDomain i d
+ChoiceLaw = (i : Image) (c : Choice) (n d : ℕ) → Runnable i → IsDomain i d → HasNoMail i d
     → view_in i d (ran i c n) ≡ view_alone_on i d n
 
 -- and no switch overran its pad

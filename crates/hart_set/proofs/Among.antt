@@ -1,12 +1,13 @@
 -- All events of a slot in which moments of all domains come, of the code beside the definition's: there is one hart.
-use Rattle.std.proofs.Common.{◌≡◌, ◌∙◌, ℕ, suc, ◌+◌, ◌*◌, ◌^◌, ◌<◌, ◌≤◌, true, false, true≢false, inl, inr, List, length, replicate, Option, Some, None, refl, sym, ap, subst, subst₂, arith}
+use Rattle.std.proofs.Common.{◌≡◌, ◌∙◌, ℕ, suc, ◌+◌, ◌*◌, ◌^◌, ◌<◌, ◌≤◌, false, true≢false, inl, inr, List, length, replicate, Option, Some, None, refl, sym, ap, subst, subst₂, arith}
 use Rattle.std.specs.Prelude.{slice_get, IfSome}
 use Rattle.std.proofs.Math.ListN.{set}
 use Rattle.cycle_cost.specs.Ranges.{most_event}
 use Rattle.phys_mem.specs.Contents.{Contents}
 use Rattle.repl_policy.specs.declared.AnyPolicy.{AnyPolicy}
-use Rattle.mem_system.specs.Contents.{CoreContents, SystemContents, system}
+use Rattle.mem_system.specs.Contents.{CoreContents, system}
 use Rattle.l2_colour.specs.Contents.{L2Contents}
+use Rattle.mail_slots.specs.Boxes.{Boxes}
 use Rattle.guards.specs.declared.Guard.{Guard}
 use Rattle.sched_table.specs.Schedule.{harts_in}
 use Rattle.image_check.specs.Image.{Image, own_of}
@@ -34,11 +35,12 @@ use Rattle.hart_set.specs.Reached.{IsReached}
 use Rattle.hart_set.proofs.Bounds.{in_bounds_next}
 use Rattle.hart_set.proofs.GoingOn.{end_early}
 use Rattle.hart_set.proofs.Called.{Called, slot_ended, reached_ended, s, holds, held_at}
-use Rattle.hart_set.proofs.Running.{After, its, at, far, slot_domain, leaves_d, over_ended, stands_next}
+use Rattle.hart_set.proofs.Running.{its, at, far, slot_domain, leaves_d, over_ended, stands_next}
 
 -- what the code leaves
 pub record AmongEnd : Type 0 where
   pub memory : Contents
+  pub mail : Boxes
   pub core : CoreContents AnyPolicy
   pub l2 : L2Contents AnyPolicy
   pub domains : List Domain
@@ -48,6 +50,7 @@ pub record AmongEnd : Type 0 where
 pub record Ended (t : State) (h : ℕ) (x : CodeHart) (z : AmongEnd) (t' : State) (x' : CodeHart) : Type 0 where
   pub off : t.off ≡ t'.off
   pub memory : t'.memory ≡ z.memory
+  pub mail : t'.mail ≡ z.mail
   pub l2 : t'.l2 ≡ z.l2
   pub core : x'.core ≡ z.core
   pub clock : x'.clock ≡ z.clock
@@ -61,7 +64,7 @@ pub record Ended (t : State) (h : ℕ) (x : CodeHart) (z : AmongEnd) (t' : State
 module _ (i : Image) (r : Runnable i) (s : Harts) (t : State) (was : Held t.off i r s) (is : StandsFor i s t)
     (below : 0 < harts_in i.all.schedule) (x : CodeHart) (got : slice_get t.harts.items 0 ≡ Some x)
     (slot : Slot) (inside : x.slot ≡ Some slot) where
-  pub stands_among : StandsIn t.off i slot.domain s.world t.memory (system x.core t.l2) t.domains.items x.clock
+  pub stands_among : StandsIn t.off i slot.domain s.world t.memory t.mail (system x.core t.l2) t.domains.items x.clock
   stands_among =
       let whose = (at i r s t was is 0 below x got slot inside).whose in
       record {
@@ -78,7 +81,7 @@ module _ (i : Image) (r : Runnable i) (s : Harts) (t : State) (was : Held t.off 
       }
 
   module _ (z : AmongEnd)
-      (over : StandsIn t.off i slot.domain (open_slot (guards_of t.off i) i slot.domain slot.end s.world) z.memory
+      (over : StandsIn t.off i slot.domain (open_slot (guards_of t.off i) i slot.domain slot.end s.world) z.memory z.mail
       (system z.core z.l2) z.domains z.clock)
       (served : IsServed t.off i) (all : (guards_of t.off i).irq ≡ false)
       (ran : WholeOpen t.off i r served below all (slots_of 0 s) s)
@@ -89,17 +92,17 @@ module _ (i : Image) (r : Runnable i) (s : Harts) (t : State) (was : Held t.off 
     abbrev later : Harts
     later = after_by t.off i (replicate ran.events 0) s
 
-    over_now : StandsIn t.off i (domain_in i 0 k) later.world z.memory (system z.core z.l2) z.domains z.clock
+    over_now : StandsIn t.off i (domain_in i 0 k) later.world z.memory z.mail (system z.core z.l2) z.domains z.clock
     over_now =
         let is_in = at i r s t was is 0 below x got slot inside in
-        subst (λ (w : World). StandsIn t.off i (domain_in i 0 k) w z.memory (system z.core z.l2) z.domains z.clock) (sym ran.world)
-        (subst₂ (λ (d end : ℕ). StandsIn t.off i d (open_slot (guards_of t.off i) i d end s.world) z.memory
+        subst (λ (w : World). StandsIn t.off i (domain_in i 0 k) w z.memory z.mail (system z.core z.l2) z.domains z.clock) (sym ran.world)
+        (subst₂ (λ (d end : ℕ). StandsIn t.off i d (open_slot (guards_of t.off i) i d end s.world) z.memory z.mail
         (system z.core z.l2) z.domains z.clock)
         is_in.whose is_in.until over)
 
-    abbrev MachineOver : Harts → Contents → CoreContents AnyPolicy → L2Contents AnyPolicy → ℕ → Type 0
-    MachineOver u memory core l2 now =
-        MachineStands i.all.hardware (guards_of t.off i).levels false memory (system core l2) now
+    abbrev MachineOver : Harts → Contents → Boxes → CoreContents AnyPolicy → L2Contents AnyPolicy → ℕ → Type 0
+    MachineOver u memory mail core l2 now =
+        MachineStands i.all.hardware (guards_of t.off i).levels false memory mail (system core l2) now
         u.world.storage (caches_of 0 u.world) (clock_of 0 u.world)
 
     pub stands_over : StandsFor i later t'
@@ -110,9 +113,11 @@ module _ (i : Image) (r : Runnable i) (s : Harts) (t : State) (was : Held t.off 
           off = kept.off;
           progress = ran.goes.over ran.past;
           machine =
-              subst₂ (λ (c : CoreContents AnyPolicy) (l : L2Contents AnyPolicy). MachineOver later t'.memory c l x'.clock)
+              subst₂ (λ (c : CoreContents AnyPolicy) (l : L2Contents AnyPolicy). MachineOver later t'.memory t'.mail c l x'.clock)
               (sym kept.core) (sym kept.l2)
-              (subst₂ (λ (c : Contents) (n : ℕ). MachineOver later c z.core z.l2 n) (sym kept.memory) (sym kept.clock) over_now.machine);
+              (subst (λ (m : Boxes). MachineOver later t'.memory m z.core z.l2 x'.clock) (sym kept.mail)
+              (subst₂ (λ (c : Contents) (n : ℕ). MachineOver later c z.mail z.core z.l2 n) (sym kept.memory) (sym kept.clock)
+              over_now.machine));
           slots = kept.slots ∙ ap suc (its i r s t was is 0 below x got).slots;
           slot = kept.now_in;
           ended = kept.ended ∙ over_ended i r s t was is 0 below x got slot inside later ran.goes.ended;
@@ -150,13 +155,13 @@ few_here i t x c all d y got =
     c.reached.in_bounds.few_calls d y got x (subst (λ (n : ℕ). slice_get t.harts.items n ≡ Some x) (sym home) c.got)
 
 module _ (i : Image) (t : State) (x : CodeHart) (c : Called i t 0 x) (slot : Slot) (inside : x.slot ≡ Some slot) where
-  pub stands_here : StandsIn t.off i slot.domain (s i t 0 x c).world t.memory (system x.core t.l2) t.domains.items x.clock
+  pub stands_here : StandsIn t.off i slot.domain (s i t 0 x c).world t.memory t.mail (system x.core t.l2) t.domains.items x.clock
   stands_here =
       stands_among i c.reached.accepted (s i t 0 x c) t (holds i t 0 x c) c.reached.stands c.below x c.got slot inside
 
   module _ (z : AmongEnd)
-      (becomes : Becomes (λ g j w. open_slot g j slot.domain slot.end w) slot.domain t.memory (system x.core t.l2) t.domains.items
-      x.clock z.memory (system z.core z.l2) z.domains z.clock)
+      (becomes : Becomes (λ g j w. open_slot g j slot.domain slot.end w) slot.domain t.memory t.mail (system x.core t.l2) t.domains.items
+      x.clock z.memory z.mail (system z.core z.l2) z.domains z.clock)
       (all : (guards_of t.off i).irq ≡ false) (t' : State) (x' : CodeHart) (kept : Ended t 0 x z t' x') where
     pub ends_among : SlotEnds i 0 t t'
     ends_among order of_harts stands =

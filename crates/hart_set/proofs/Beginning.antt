@@ -1,17 +1,13 @@
 -- The switch into a hart's next slot, of the code beside the definition's, with all guards on or with one off.
-use Rattle.std.proofs.Common.{◌≡◌, ◌∙◌, option_map, ℕ, zero, suc, ◌+◌, ◌-◌, ◌<◌, ◌≤◌, max, Bool, true, false, List, [], ◌∷◌, ◌++◌, Option, Some, None, length, ltb, lt-ltb, le-ltb, refl, sym, ap, ap₂, subst, subst₂, arith, ◌⊎◌, inl, inr}
+use Rattle.std.proofs.Common.{◌≡◌, ◌∙◌, ℕ, suc, ◌+◌, ◌-◌, ◌<◌, ◌≤◌, max, Bool, true, false, List, [], ◌∷◌, ◌++◌, Option, Some, None, length, ltb, lt-ltb, le-ltb, refl, sym, ap, ap₂, subst, subst₂, arith, ◌⊎◌, inl, inr}
 use Rattle.std.specs.Prelude.{slice_get, IfSome, if◌then◌else◌}
 use Rattle.std.proofs.Math.ListN.{set}
-use Rattle.std.proofs.lemmas.Option.{same_Some}
-use Rattle.guards.specs.declared.Guard.{Guard}
 use Rattle.phys_mem.specs.Mem.{Mem}
 use Rattle.repl_policy.specs.declared.AnyPolicy.{AnyPolicy}
 use Rattle.repl_policy.specs.Members.{any_rule, any_stands_for}
 use Rattle.cycle_cost.specs.Costs.{CostTable}
-use Rattle.kernel_clone.specs.Footprints.{Layout, IsLayout}
+use Rattle.kernel_clone.specs.Footprints.{Layout}
 use Rattle.phys_mem.specs.Contents.{Contents}
-use Rattle.kernel_clone.specs.Models.{layout_model}
-use Rattle.kernel_clone.specs.declared.CloneLayout.{CloneLayout}
 use Rattle.mem_system.specs.Hierarchy.{Hierarchy}
 use Rattle.mem_system.specs.Cost.{Caches, Touched, touched_all}
 use Rattle.mem_system.specs.Contents.{CoreContents, SystemStands, system, hierarchy_of}
@@ -20,22 +16,22 @@ use Rattle.l2_colour.specs.Contents.{L2Contents}
 use Rattle.mem_system.specs.Operations as operations
 use Rattle.domain_switch.specs.Switch.{IsSwitched}
 use Rattle.hardware_check.specs.Hardware.{Hardware}
-use Rattle.sched_table.specs.Schedule.{harts_in, entry_of_slot, switch_entry, start, slot_end, outgoing, on_hart, place_on}
+use Rattle.sched_table.specs.Schedule.{harts_in, entry_of_slot, switch_entry, start, outgoing, place_on}
 use Rattle.image_check.specs.Image.{Image, own_of}
 use Rattle.image_check.specs.Laws.{Runnable}
 use Rattle.kernel_call.specs.declared.domain.Domain.{Domain}
 use Rattle.phys_mem.specs.Holds.{Holds}
+use Rattle.mail_slots.specs.Boxes.{Boxes}
+use Rattle.world_view.specs.Mail.{switched_boxes}
 use Rattle.world_view.specs.Event.{Storage}
 use Rattle.world_view.specs.Frames.{root_of}
-use Rattle.world_view.specs.Machine.{World, Hart, no_hart, dom_of, Guards, guards_of, caches_of, clock_of, ended_of, clone_by, setting_by, ended_by, ends_by, begins_by, switch_work_by, switch_on, with_hart, with_end, cycles_on, noted}
-use Rattle.world_view.specs.Relations.{IsDomain}
+use Rattle.world_view.specs.Machine.{World, Hart, no_hart, dom_of, Guards, guards_of, caches_of, clock_of, ended_of, clone_by, setting_by, ended_by, ends_by, begins_by, switch_work_by, with_mail, switch_on, with_hart, with_end, cycles_on, noted}
 use Rattle.world_view.specs.Harts.{Harts, image_on, IsOutside, progress_of, slots_of, domain_in, end_on, start_on, end_by, with_end_by, proceeds, settles, next_by}
 use Rattle.world_view.proofs.opening.Separate.{separated}
 use Rattle.world_view.proofs.runs.GuardLaws.{are_guards}
 use Rattle.world_view.proofs.runs.SwitchParts.{work_by_is, caches-with, clock-with}
-use Rattle.world_view.proofs.harts.OnHart.{separated_on}
 use Rattle.world_view.proofs.harts.Runs.{progress-same}
-use Rattle.tp_base.specs.Table.{at, put, at-put_same}
+use Rattle.tp_base.specs.Table.{at-put_same}
 use Rattle.domain_step.specs.Standing.{MachineStands, DomainStands}
 use Rattle.domain_step.specs.Usage.{IsUsed}
 use Rattle.hart_orders.specs.declared.hart.Slot.{Slot}
@@ -169,9 +165,16 @@ module _ (i : Image) (r : Runnable i) (s : Harts) (t : State) (was : Held t.off 
     unfolding begun_by
     begun_is = ap begun_at (same_guards t.off i h)
 
+    -- who leaves, and what the switch makes of boxes
+    abbrev leaving : Option ℕ
+    leaving = outgoing on.all.schedule k
+
+    abbrev moved : Boxes → Boxes
+    moved = switched_boxes leaving d
+
     -- what is told of it where nobody notes the end, and so where somebody does
     record IsBegun (w : World) : Type 0 where
-      storage : w.storage ≡ s.world.storage
+      storage : w.storage ≡ record s.world.storage { boxes = moved s.world.storage.boxes }
       caches : caches_of h w ≡ (work_at g).caches
       clock : clock_of h w ≡ begins_by g on k (clock_of h s.world + (work_at g).cost)
       doms : (e : ℕ) → dom_of w e ≡ dom_of s.world e
@@ -181,8 +184,8 @@ module _ (i : Image) (r : Runnable i) (s : Harts) (t : State) (was : Held t.off 
     unfolding switch_on with_hart
     noted_is = record {
       storage = refl;
-      caches = caches-with h s.world (work_at g).caches _;
-      clock = clock-with h s.world (work_at g).caches _;
+      caches = caches-with h (with_mail leaving d s.world) (work_at g).caches _;
+      clock = clock-with h (with_mail leaving d s.world) (work_at g).caches _;
       doms = λ e. refl;
       used_is = refl;
     }
@@ -231,6 +234,7 @@ module _ (i : Image) (r : Runnable i) (s : Harts) (t : State) (was : Held t.off 
       pub record Begun (t' : State) (x' : CodeHart) : Type 0 where
         pub off : t.off ≡ t'.off
         pub memory : t'.memory ≡ t.memory
+        pub mail : t'.mail ≡ moved t.mail
         pub l2 : t'.l2 ≡ l2'
         pub core : x'.core ≡ core'
         pub clock : x'.clock ≡ now
@@ -252,15 +256,16 @@ module _ (i : Image) (r : Runnable i) (s : Harts) (t : State) (was : Held t.off 
         pub slot : x'.slot ≡ None
 
       module _ (t' : State) (x' : CodeHart) (b : Begun t' x') where
-        machine_there : MachineStands p g.levels false t'.memory (system x'.core t'.l2) x'.clock
+        machine_there : MachineStands p g.levels false t'.memory t'.mail (system x'.core t'.l2) x'.clock
             begun.storage (caches_of h begun) (clock_of h begun)
         machine_there =
             subst₂ (λ (y : CoreContents AnyPolicy) (l : L2Contents AnyPolicy). MachineStands p g.levels
-            false t'.memory (system y l) x'.clock begun.storage (caches_of h begun) (clock_of h begun))
+            false t'.memory t'.mail (system y l) x'.clock begun.storage (caches_of h begun) (clock_of h begun))
             (sym b.core) (sym b.l2)
             (record {
               frames = ap (λ (y : Contents). y.frames) b.memory ∙ there.machine.frames;
               holds = subst₂ (λ (y : Contents) (z : Storage). Holds y z.mem) (sym b.memory) (sym told.storage) there.machine.holds;
+              boxes = b.mail ∙ ap moved there.machine.boxes ∙ sym (ap (λ (z : Storage). z.boxes) told.storage);
               levels = there.machine.levels ∙ sym did.levels;
               pinned = did.pinned ∙ there.machine.pinned;
               caches = subst (SystemStands any_stands_for (system core' l2')) (sym told.caches) switched.next;

@@ -1,5 +1,5 @@
 -- What a call finds of the hart that it names.
-use Rattle.std.proofs.Common.{◌≡◌, ◌∙◌, ℕ, suc, false, ◌<◌, ◌≤◌, List, Option, Some, [], ◌∷◌, ◌++◌, replicate, length, refl, sym, ap, subst, arith}
+use Rattle.std.proofs.Common.{◌≡◌, ◌∙◌, ℕ, suc, false, ◌<◌, ◌≤◌, List, Option, Some, ◌++◌, replicate, length, refl, sym, ap, subst, arith}
 use Rattle.std.specs.Prelude.{slice_get, slice_index_or}
 use Rattle.std.proofs.lemmas.Option.{slice_get_read, same_Some}
 use Rattle.std.proofs.lemmas.List.Elements.{All-append, All-replicate}
@@ -88,17 +88,6 @@ module _ (image : Raw) (t : State) (v : Raw × State) (view : (image, t) ≡ v) 
       subst (λ (u : Raw × State). AtHart u.1 h (Q (image_of u))) view
       (λ y at. subst (Q (image_from image)) (same_Some x y (sym got ∙ at)) is)
 
-  -- and of the state too
-  pub for_state : (h : ℕ) (x : CodeHart) (Q : Image → State → CodeHart → Type 0) → slice_get t.harts.items h ≡ Some x
-      → Q (image_from image) t x → AtHart v.1 h (Q (image_of v) v.1)
-  for_state h x Q got is =
-      subst (λ (u : Raw × State). AtHart u.1 h (Q (image_of u) u.1)) view
-      (λ y at. subst (Q (image_from image) t) (same_Some x y (sym got ∙ at)) is)
-
-  pub state_at : (h : ℕ) (x : CodeHart) (Q : Image → State → CodeHart → Type 0) → slice_get t.harts.items h ≡ Some x
-      → AtHart v.1 h (Q (image_of v) v.1) → Q (image_from image) t x
-  state_at h x Q got is = subst (λ (u : Raw × State). AtHart u.1 h (Q (image_of u) u.1)) (sym view) is x got
-
   -- what a hart has that was read at an index
   at_index : (h n : ℕ) → n ≡ h → h < harts_in (image_of v).all.schedule → IsReached (image_from image) t
       → (x : CodeHart)
@@ -127,6 +116,9 @@ module _ (image : Raw) (t : State) (v : Raw × State) (view : (image, t) ≡ v) 
       omega (arith, here, same, reached.stands.all_harts)
 
   -- and what holds of the state too
+  pub of_value : (P : Image → State → Type 0) → P (image_of v) v.1 → P (image_from image) t
+  of_value P is = subst (λ (u : Raw × State). P (image_of u) u.1) (sym view) is
+
   pub to_value : (P : Image → State → Type 0) → P (image_from image) t → P (image_of v) v.1
   to_value P is = subst (λ (u : Raw × State). P (image_of u) u.1) view is
 

@@ -18,7 +18,7 @@ use Rattle.image_check.specs.Laws.{Runnable}
 use Rattle.domain_open.specs.Placing.{IsOpened, AreOpened}
 use Rattle.world_view.specs.Cost.{hierarchy}
 use Rattle.world_view.specs.Kernel.{layout, opening_dom, estate}
-use Rattle.world_view.specs.Machine.{guarded, guards_of, setting_by}
+use Rattle.world_view.specs.Machine.{guarded, guards_of}
 use Rattle.domain_step.specs.Standing.{DomainStands}
 use Rattle.domain_step.proofs.Events.{has_still}
 use Rattle.domain_step.proofs.SwitchCounts.{written_back}

@@ -1,14 +1,14 @@
 -- Events of the domain whose slot a hart is in, as the code finds and leaves it.
-use Rattle.std.proofs.Common.{true, false, ◌≡◌, ◌∙◌, ℕ, zero, suc, ◌+◌, ◌*◌, ◌^◌, ◌<◌, ◌≤◌, List, replicate, Option, Some, None, length, refl, ◌⊎◌, inl, inr, sym, ap, subst, arith}
+use Rattle.std.proofs.Common.{true, ◌≡◌, ◌∙◌, ℕ, zero, suc, ◌+◌, ◌*◌, ◌^◌, ◌<◌, ◌≤◌, List, replicate, Option, Some, length, refl, ◌⊎◌, inl, inr, sym, ap, subst, arith}
 use Rattle.std.specs.Prelude.{slice_get, slice_index_or, IfSome}
 use Rattle.cycle_cost.specs.Ranges.{most_event}
 use Rattle.repl_policy.specs.Members.{any_rule, any_stands_for}
 use Rattle.mem_system.specs.Contents.{system}
-use Rattle.image_check.specs.Image.{Image, own_of}
+use Rattle.image_check.specs.Image.{Image}
 use Rattle.kernel_call.specs.declared.domain.Domain.{Domain}
 use Rattle.kernel_call.specs.Models.{CountsUpTo}
 use Rattle.world_view.specs.Machine.{Local, Setting, guards_of, setting_by, step, stretch, part_of}
-use Rattle.world_view.specs.Harts.{Harts, Progress, harts_by, next_by, after_by, end_by, domain_in, progress_of, slots_of, hart_of_domain}
+use Rattle.world_view.specs.Harts.{Harts, harts_by, next_by, after_by, end_by, domain_in, progress_of, slots_of, hart_of_domain}
 use Rattle.world_view.specs.HartLaws.{AreHartsOf}
 use Rattle.world_view.proofs.harts.OnHart.{hart_is}
 use Rattle.hart_orders.proofs.Held.{Held}
@@ -21,7 +21,7 @@ use Rattle.hart_set.specs.Standing.{StandsFor, IsEarly, IsInBounds}
 use Rattle.hart_set.specs.Reached.{IsReached}
 use Rattle.hart_set.proofs.Bounds.{IsCounted, in_bounds_next}
 use Rattle.hart_set.specs.Slots.{NextStands, SlotEndsIn}
-use Rattle.hart_set.proofs.Called.{Called, domain_read, slot_ended, reached_ended, s, holds, held_at, its, few, pushed, reached_after, reached_next}
+use Rattle.hart_set.proofs.Called.{Called, domain_read, slot_ended, reached_ended, s, holds, held_at, its, pushed, reached_next}
 use Rattle.hart_orders.proofs.Through.{Ran, EndsIn, ends_once, one_event, whole}
 use Rattle.hart_set.proofs.Running.{StepEnd, Stepped, GoesOn, IsOver, at, far, slot_domain, early, begun, stands_stepped}
 
@@ -73,7 +73,7 @@ module _ (i : Image) (t : State) (h : ℕ) (x : CodeHart) (c : Called i t h x) (
       ∙ hart_is i r h c.below (slots_of h (s i t h x c))
 
   module _ (y : Domain) (got_y : slice_get t.domains.items slot.domain ≡ Some y) where
-    pub runs_here : Runs any_rule any_stands_for t.memory y (system x.core t.l2) x.clock
+    pub runs_here : Runs any_rule any_stands_for t.memory t.mail y (system x.core t.l2) x.clock
     runs_here =
         let r = c.reached.accepted in
         let d = domain_in i h (slots_of h (s i t h x c)) in
@@ -137,8 +137,8 @@ module _ (i : Image) (t : State) (h : ℕ) (x : CodeHart) (c : Called i t h x) (
 
       -- any harts that it stood for: it stands for what f makes of them
       now_stands : (f : Setting → ℕ → Local → Local)
-          → Moves any_rule any_stands_for (λ w. f w slot.end) t.memory y (system x.core t.l2) x.clock z.memory
-          z.domain (system z.core z.l2) z.clock
+          → Moves any_rule any_stands_for (λ w. f w slot.end) t.memory t.mail y (system x.core t.l2) x.clock z.memory
+          z.mail z.domain (system z.core z.l2) z.clock
           → (u later : Harts) (held_u : Held t.off i c.reached.accepted u) → StandsFor i u t
           → Ran t.off i c.reached.accepted c.reached.served h c.below (slots_of h u) f u later → StandsFor i later t'
       now_stands f moved u later held_u stands ran =
@@ -148,8 +148,8 @@ module _ (i : Image) (t : State) (h : ℕ) (x : CodeHart) (c : Called i t h x) (
       module _ (own : (guards_of t.off i).irq ≡ true) where
         -- ---- one event
 
-        module _ (moved : Moves any_rule any_stands_for (λ w. step w slot.end) t.memory y (system x.core t.l2) x.clock
-            z.memory z.domain (system z.core z.l2) z.clock) where
+        module _ (moved : Moves any_rule any_stands_for (λ w. step w slot.end) t.memory t.mail y (system x.core t.l2) x.clock
+            z.memory z.mail z.domain (system z.core z.l2) z.clock) where
           stands_next : (order : List ℕ) → AreHartsOf i order → StandsFor i (harts_by t.off i order) t
               → StandsFor i (next_by t.off i h (harts_by t.off i order)) t'
           stands_next order of_harts stands =
@@ -168,10 +168,10 @@ module _ (i : Image) (t : State) (h : ℕ) (x : CodeHart) (c : Called i t h x) (
 
         -- ---- all up to the slot's end
 
-        module _ (events : ℕ) (moved : Moves any_rule any_stands_for (λ w. stretch w slot.end) t.memory y (system x.core t.l2) x.clock
-            z.memory z.domain (system z.core z.l2) z.clock)
-            (along : MovesAlong any_rule any_stands_for slot.end slot.end events t.memory y (system x.core t.l2) x.clock
-            z.memory z.domain (system z.core z.l2) z.clock) (past : slot.end ≤ z.clock) where
+        module _ (events : ℕ) (moved : Moves any_rule any_stands_for (λ w. stretch w slot.end) t.memory t.mail y (system x.core t.l2) x.clock
+            z.memory z.mail z.domain (system z.core z.l2) z.clock)
+            (along : MovesAlong any_rule any_stands_for slot.end slot.end events t.memory t.mail y (system x.core t.l2) x.clock
+            z.memory z.mail z.domain (system z.core z.l2) z.clock) (past : slot.end ≤ z.clock) where
           -- any harts that it stood for come past the end with as many
           so_many : (u : Harts) → Held t.off i c.reached.accepted u → StandsFor i u t →
               let d = domain_in i h (slots_of h u) in

@@ -1,5 +1,5 @@
 -- The code's harts before the first event, with all guards on or one hart with one off.
-use Rattle.std.proofs.Common.{◌≡◌, ◌∙◌, ℕ, ◌+◌, ◌*◌, ◌^◌, ◌<◌, ◌≤◌, Bool, true, false, List, [], Option, Some, None, All, length, refl, sym, ap, subst, arith}
+use Rattle.std.proofs.Common.{◌≡◌, ◌∙◌, ℕ, ◌+◌, ◌*◌, ◌^◌, ◌<◌, ◌≤◌, Bool, true, false, [], Option, Some, None, All, length, refl, sym, ap, subst, arith}
 use Rattle.std.specs.Prelude.{slice_get, IfSome, if◌then◌else◌}
 use Rattle.std.proofs.lemmas.Option.{slice_get_within, get_or_from_slice_get}
 use Rattle.tp_base.specs.Table.{Table, at}
@@ -14,6 +14,7 @@ use Rattle.call_table.specs.Domain.{Dom}
 use Rattle.sched_table.specs.Schedule.{harts_in}
 use Rattle.image_check.specs.Image.{Image, own_of}
 use Rattle.image_check.specs.Laws.{Runnable}
+use Rattle.mail_slots.specs.Boxes as mail
 use Rattle.kernel_call.specs.declared.domain.Domain.{Domain}
 use Rattle.kernel_call.specs.Models.{Stands, CountsUpTo}
 use Rattle.domain_open.specs.Placing.{placed_all}
@@ -24,7 +25,7 @@ use Rattle.world_view.specs.Frames.{root_of}
 use Rattle.world_view.specs.Kernel.{no_dom}
 use Rattle.world_view.specs.Machine.{World, guarded, guards_of, setting_by, dom_of, opening, with_hart}
 use Rattle.world_view.specs.Relations.{IsDomain}
-use Rattle.world_view.specs.Harts.{Progress, progress_of, domain_in, end_by, image_on, hart_of_domain, all_cold, harts_by, after_by}
+use Rattle.world_view.specs.Harts.{Progress, domain_in, end_by, hart_of_domain, all_cold, harts_by, after_by}
 use Rattle.world_view.proofs.opening.OpeningLaws.{opening_dom_is}
 use Rattle.world_view.proofs.opening.Separate.{separated}
 use Rattle.world_view.proofs.harts.Runs.{doms_cold, storage_cold, used_cold, all_cold_are}
@@ -35,7 +36,7 @@ use Rattle.hart_orders.specs.Cold.{IsColdHart}
 use Rattle.hart_orders.specs.Off.{IsServed, levels_by}
 use Rattle.hart_orders.proofs.Held.{ended_cold, progress_first}
 use Rattle.hart_set.specs.declared.set.State.{State}
-use Rattle.hart_set.specs.Standing.{StandsFor, HartStands, AtHart, IsEarly, IsInBounds, slot_if, ended_if}
+use Rattle.hart_set.specs.Standing.{StandsFor, HartStands, AtHart, IsInBounds, slot_if, ended_if}
 use Rattle.hart_set.specs.Reached.{IsReached}
 use Rattle.hart_set.specs.Clones.{AreEntered}
 
@@ -64,6 +65,7 @@ same_cold (Some guard.Irq) i = refl
 pub record IsLoaded (i : Image) (t : State) : Type 0 where
   pub frames : t.memory.frames ≡ i.all.hardware.frames
   pub holds : Holds t.memory (placed_all i)
+  pub boxes : t.mail ≡ mail.opening i.all.mail
   pub all_harts : length t.harts.items ≡ harts_in i.all.schedule
   pub cold : All (IsColdHart (levels_by t.off i.all.hardware) t.l2) t.harts.items
   pub entered : AreEntered t.off i t.domains.items
@@ -99,6 +101,7 @@ module _ (i : Image) (r : Runnable i) (t : State) (is : IsLoaded i t) where
         machine = record {
           frames = is.frames;
           holds = subst (λ (s : Storage). Holds t.memory s.mem) (sym (storage_cold i many)) is.holds;
+          boxes = is.boxes ∙ sym (ap (λ (s : Storage). s.boxes) (storage_cold i many));
           levels = sym (cold_x.levels ∙ levels_are t.off i);
           pinned = cold_x.pinned;
           caches = subst (SystemStands any_stands_for (system x.core t.l2)) (same_cold t.off i ∙ sym there.caches) cold_x.caches;

@@ -19,7 +19,7 @@ use Rattle.image_check.specs.Image.{Image, own_of}
 use Rattle.call_table.specs.Domain.{Dom}
 use Rattle.world_view.specs.Frames.{root_of}
 use Rattle.world_view.specs.Event.{Storage}
-use Rattle.world_view.specs.Machine.{Hart, World, Guards, guards_of, hart_of, clock_of, ended_of, dom_of}
+use Rattle.world_view.specs.Machine.{Hart, Guards, guards_of, hart_of, dom_of}
 use Rattle.world_view.specs.Relations.{SameFrames, HasFacts}
 use Rattle.world_view.specs.Harts.{Harts, Progress, progress_of, image_on, slots_of, domain_in, end_on, end_by}
 use Rattle.world_view.proofs.actions.TableLaws.{IsPage, Walkable, walkable, walk_alike, root_is}
@@ -132,6 +132,7 @@ module _ (i : Image) (h g : ℕ) (s s' : Harts) (t t' : State) (z x' : CodeHart)
     machine = record {
       frames = did.machine.frames;
       holds = did.machine.holds;
+      boxes = did.machine.boxes;
       levels =
           ap (λ (o : Option Guard). (guards_of o i).levels) off
           ∙ levels_over on.levels z.core x'.core t.l2 t'.l2 was.machine.levels

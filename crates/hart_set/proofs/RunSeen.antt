@@ -19,7 +19,7 @@ use Rattle.hart_machine.proofs.Reports.{slots}
 use Rattle.hart_machine.proofs.DrawnOrder.{drawn_by_slots}
 use Rattle.hart_set.specs.declared.set.State.{State}
 use Rattle.hart_set.specs.Standing.{StandsFor}
-use Rattle.hart_set.specs.Models.{image_of, harts_after, StandsAfter}
+use Rattle.hart_set.specs.Models.{image_of, harts_after}
 use Rattle.hart_set.specs.Run.{StandsAt, HasRun}
 
 -- ---- harts that have run
@@ -53,6 +53,7 @@ same_world : (i : Image) → IsOnOneHart i → (w v u : World) → SameWorld w v
 same_world i one w v u a b = record {
   seen = λ d id. ap₂ (view i.all.hardware (own_of i d)) (sym (a.doms d) ∙ b.doms d) (sym a.storage ∙ b.storage);
   used = sym a.used ∙ b.used;
+  came = sym a.came ∙ b.came;
   clocks = λ h there.
       let first : 0 ≡ h = omega (arith, one, there) in
       subst (λ (g : ℕ). clock_of g v ≡ clock_of g u) first (sym a.clock ∙ b.clock);
@@ -71,6 +72,7 @@ run_one v c n one has =
       same = record {
         seen = λ d id. by_choice.seen d id ∙ has.same.seen d id;
         used = by_choice.used ∙ has.same.used;
+        came = by_choice.came ∙ has.same.came;
         clocks = λ h there. by_choice.clocks h there ∙ has.same.clocks h there;
       };
       stands = has.stands;

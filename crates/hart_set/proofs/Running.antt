@@ -13,6 +13,7 @@ use Rattle.l2_colour.specs.Contents.{L2Contents}
 use Rattle.cap_table.specs.Slots.{Slots}
 use Rattle.call_table.specs.Domain.{Dom}
 use Rattle.call_table.specs.Claims.{is_mine, claims, Facts}
+use Rattle.mail_slots.specs.Boxes.{Boxes}
 use Rattle.guards.specs.declared.Guard.{Guard}
 use Rattle.hardware_check.specs.Hardware.{Hardware}
 use Rattle.sched_table.specs.Schedule.{harts_in}
@@ -24,7 +25,7 @@ use Rattle.world_view.specs.Frames.{root_of}
 use Rattle.world_view.specs.Kernel.{estate}
 use Rattle.world_view.specs.Machine.{Local, Setting, Guards, guards_of, setting_by, hart_of, dom_of, part_of, caches_of, clock_of, ended_of}
 use Rattle.world_view.specs.Relations.{IsDomain}
-use Rattle.world_view.specs.Harts.{Harts, Progress, progress_of, IsInSlot, slots_of, domain_in, end_by}
+use Rattle.world_view.specs.Harts.{Harts, Progress, progress_of, slots_of, domain_in, end_by}
 use Rattle.world_view.proofs.opening.Separate.{separated}
 use Rattle.world_view.proofs.opening.OpeningFacts.{kernel_of}
 use Rattle.world_view.proofs.actions.TableLaws.{root_is}
@@ -43,11 +44,12 @@ use Rattle.hart_set.specs.Standing.{StandsFor, HartStands, slot_if, ended_if}
 use Rattle.hart_set.proofs.Others.{Besides, hart_stands, IsIn, in_slot}
 use Rattle.hart_orders.specs.Off.{IsServed}
 use Rattle.hart_orders.proofs.Held.{Held, LeavesOthers, end_stays}
-use Rattle.hart_orders.proofs.Through.{Ran, GoesThrough}
+use Rattle.hart_orders.proofs.Through.{Ran}
 
 -- what the code's step leaves, or all that it does up to a slot's end
 pub record StepEnd : Type 0 where
   pub memory : Contents
+  pub mail : Boxes
   pub core : CoreContents AnyPolicy
   pub l2 : L2Contents AnyPolicy
   pub domain : Domain
@@ -56,6 +58,7 @@ pub record StepEnd : Type 0 where
 -- what the code keeps of it: so many slots of the hart have ended, and it is in this one
 pub record Stepped (t : State) (h : ℕ) (x : CodeHart) (d : ℕ) (z : StepEnd) (m : ℕ) (o : Option Slot) (t' : State) (x' : CodeHart) : Type 0 where
   pub memory : t'.memory ≡ z.memory
+  pub mail : t'.mail ≡ z.mail
   pub l2 : t'.l2 ≡ z.l2
   pub core : x'.core ≡ z.core
   pub clock : x'.clock ≡ z.clock
@@ -139,7 +142,7 @@ module _ (i : Image) (r : Runnable i) (s : Harts) (t : State) (was : Held t.off 
   pub record After (s' : Harts) (m : ℕ) (b : Bool) (t' : State) (x' : CodeHart) : Type 0 where
     pub off : t.off ≡ t'.off
     pub progress : progress_of h s' ≡ record { slots = m; inside = b }
-    pub machine : MachineStands p g.levels false t'.memory (system x'.core t'.l2) x'.clock
+    pub machine : MachineStands p g.levels false t'.memory t'.mail (system x'.core t'.l2) x'.clock
         s'.world.storage (caches_of h s'.world) (clock_of h s'.world)
     pub slots : x'.slots ≡ m
     pub slot : x'.slot ≡ slot_if b (domain_in i h m) (end_by g i h m s'.world)
@@ -234,20 +237,20 @@ module _ (i : Image) (r : Runnable i) (s : Harts) (t : State) (was : Held t.off 
           subst (λ (root : ℕ). KeepsLeaves s.world.storage.mem t.memory.frames root x.core.tlb)
           (sym ((is.each_domain d y got_d).has.root ∙ root_is p (own_of i d))) leaves_d
 
-      pub begun : StandsIn any_rule any_stands_for (setting_by g i d) t.memory y
+      pub begun : StandsIn any_rule any_stands_for (setting_by g i d) t.memory t.mail y
           (system x.core t.l2) x.clock (part_of h d s.world)
       begun =
-          stands_in (setting_by g i d) t.memory y (system x.core t.l2) x.clock (part_of h d s.world)
+          stands_in (setting_by g i d) t.memory t.mail y (system x.core t.l2) x.clock (part_of h d s.world)
           (kernel_of i (separated i r) d d_is)
           (sound d d_is) its.machine (is.each_domain d y got_d) (facts_at d y d_is got_d) leaves_y
 
       -- the code leaves it as f does: one event, or all up to the slot's end
       module _ (f : Setting → ℕ → Local → Local) (z : StepEnd)
-          (moved : Moves any_rule any_stands_for (λ w. f w slot.end) t.memory y (system x.core t.l2) x.clock
-          z.memory z.domain (system z.core z.l2) z.clock)
+          (moved : Moves any_rule any_stands_for (λ w. f w slot.end) t.memory t.mail y (system x.core t.l2) x.clock
+          z.memory z.mail z.domain (system z.core z.l2) z.clock)
           (served : IsServed t.off i) (s' : Harts) (ran : Ran t.off i r served h below k f s s') where
         abbrev Stands : Local → Type 0
-        Stands v = StandsIn any_rule any_stands_for (setting_by g i d) z.memory z.domain (system z.core z.l2) z.clock v
+        Stands v = StandsIn any_rule any_stands_for (setting_by g i d) z.memory z.mail z.domain (system z.core z.l2) z.clock v
 
         over : Stands (part_of h d s'.world)
         over =
@@ -255,12 +258,12 @@ module _ (i : Image) (r : Runnable i) (s : Harts) (t : State) (was : Held t.off 
             (ap (λ (e : ℕ). f (setting_by g i d) e (part_of h d s.world)) at.until ∙ sym ran.part)
             (moved (setting_by g i d) (part_of h d s.world) begun)
 
-        abbrev Machine : Contents → CoreContents AnyPolicy → L2Contents AnyPolicy → ℕ → Type 0
-        Machine memory core l2 now =
-            MachineStands p g.levels false memory (system core l2) now s'.world.storage (caches_of h s'.world) (clock_of h s'.world)
+        abbrev Machine : Contents → Boxes → CoreContents AnyPolicy → L2Contents AnyPolicy → ℕ → Type 0
+        Machine memory mail core l2 now =
+            MachineStands p g.levels false memory mail (system core l2) now s'.world.storage (caches_of h s'.world) (clock_of h s'.world)
 
-        machine_after : Machine z.memory z.core z.l2 z.clock
-        machine_after = machine_of (setting_by g i d) z.memory z.domain (system z.core z.l2) z.clock (part_of h d s'.world) over
+        machine_after : Machine z.memory z.mail z.core z.l2 z.clock
+        machine_after = machine_of (setting_by g i d) z.memory z.mail z.domain (system z.core z.l2) z.clock (part_of h d s'.world) over
 
         abbrev Leaves : Option Slot → Contents → CoreContents AnyPolicy → Type 0
         Leaves o memory core = IfSome o (λ v. KeepsLeaves s'.world.storage.mem memory.frames (root_of p (own_of i v.domain)) core.tlb)
@@ -275,7 +278,7 @@ module _ (i : Image) (r : Runnable i) (s : Harts) (t : State) (was : Held t.off 
         domains_after e v got_e =
             each_set_kept (λ j q. DomainStands (setting_by g i j) q (dom_of s'.world j)) t.domains.items d z.domain
             (slice_get_within t.domains.items d y got_d)
-            (domain_of (setting_by g i d) z.memory z.domain (system z.core z.l2) z.clock (part_of h d s'.world) over)
+            (domain_of (setting_by g i d) z.memory z.mail z.domain (system z.core z.l2) z.clock (part_of h d s'.world) over)
             (λ j q apart got_j. subst (DomainStands (setting_by g i j) q) (sym (ran.doms j apart)) (is.each_domain j q got_j))
             e v (subst (λ (n : ℕ). slice_get (set t.domains.items n z.domain) e ≡ Some v) at.whose got_e)
 
@@ -287,8 +290,9 @@ module _ (i : Image) (r : Runnable i) (s : Harts) (t : State) (was : Held t.off 
           off = did.off;
           progress = progress;
           machine =
-              subst₂ (λ (c : CoreContents AnyPolicy) (l : L2Contents AnyPolicy). Machine t'.memory c l x'.clock) (sym did.core) (sym did.l2)
-              (subst₂ (λ (c : Contents) (n : ℕ). Machine c z.core z.l2 n) (sym did.memory) (sym did.clock) machine_after);
+              subst₂ (λ (c : CoreContents AnyPolicy) (l : L2Contents AnyPolicy). Machine t'.memory t'.mail c l x'.clock) (sym did.core) (sym did.l2)
+              (subst (λ (m : Boxes). Machine t'.memory m z.core z.l2 x'.clock) (sym did.mail)
+              (subst₂ (λ (c : Contents) (n : ℕ). Machine c z.mail z.core z.l2 n) (sym did.memory) (sym did.clock) machine_after));
           slots = did.slots;
           slot = did.now_in ∙ is_slot;
           ended = did.ended ∙ ends;

@@ -1,5 +1,5 @@
 -- What is seen of a domain, and what switches took, of the code's harts.
-use Rattle.std.proofs.Common.{◌≡◌, ◌∙◌, ℕ, ◌^◌, ◌<◌, ◌≤◌, Option, Some, None, length, inl, inr, sym, ap, subst, subst₂, arith}
+use Rattle.std.proofs.Common.{◌≡◌, ◌∙◌, ℕ, ◌^◌, ◌<◌, ◌≤◌, List, Option, Some, None, length, inl, inr, sym, ap, subst, subst₂, arith}
 use Rattle.std.specs.Prelude.{slice_get}
 use Rattle.std.proofs.lemmas.Option.{slice_get_cases}
 use Rattle.guards.specs.declared.Guard.{Guard}
@@ -10,10 +10,11 @@ use Rattle.kernel_call.specs.declared.domain.Domain.{Domain}
 use Rattle.domain_open.proofs.Seen.{view_is}
 use Rattle.world_view.specs.declared.used.Used.{Used}
 use Rattle.world_view.specs.Seen.{seen_of}
-use Rattle.world_view.specs.Machine.{dom_of}
-use Rattle.world_view.specs.Relations.{IsDomain}
-use Rattle.world_view.specs.Harts.{Harts, harts, harts_by, start_on, hart_of_domain, view_on, view_alone_on}
-use Rattle.world_view.proofs.harts.Isolation.{running, hart_isolation, hart_largest}
+use Rattle.world_view.specs.Machine.{dom_of, arrivals}
+use Rattle.world_view.specs.Relations.{IsDomain, HasNoMail}
+use Rattle.world_view.specs.Harts.{Harts, harts, harts_by, start_on, hart_of_domain, view_on, view_mailed_on, view_alone_on}
+use Rattle.world_view.specs.HartLaws.{AreHartsOf, IsBetween}
+use Rattle.world_view.proofs.harts.Isolation.{running, hart_mail, hart_isolation, hart_largest}
 use Rattle.world_view.proofs.time.ClockLaws.{clock_soon as clocks_soon}
 use Rattle.hart_orders.specs.declared.hart.Hart.{Hart as CodeHart}
 use Rattle.hart_set.specs.declared.set.State.{State}
@@ -64,13 +65,30 @@ module _ (i : Image) (t : State) (c : IsReached i t) where
         let w = s.world in
         view_is i.all.hardware (own_of i d) x is.has t.memory frames_are (dom_of w d) w.storage is.dom holds
 
-    pub seen_alone : IsDomain i d → t.off ≡ None → AtHart t (hart_of_domain i d)
-        (λ y. y.clock < start_on i (hart_of_domain i d) y.slots → seen_of x t.memory ≡ view_alone_on i d y.slots)
-    seen_alone id all y at early =
-        let stands = subst (λ (o : Option Guard). StandsFor i (harts_by o i c.order) t) all c.stands in
+    -- its hart has not begun its next slot
+    between : (s : Harts) → StandsFor i s t → (y : CodeHart) → slice_get t.harts.items (hart_of_domain i d) ≡ Some y
+        → y.clock < start_on i (hart_of_domain i d) y.slots → IsBetween i (hart_of_domain i d) s
+    between s stands y at early =
         let is = stands.each_hart (hart_of_domain i d) y at in
-        let between = subst₂ (λ (n k : ℕ). n < start_on i (hart_of_domain i d) k) is.machine.time is.slots early in
-        seen (harts i c.order) stands ∙ hart_isolation i d c.order c.accepted id c.of_harts between ∙ ap (view_alone_on i d) (sym is.slots)
+        subst₂ (λ (n k : ℕ). n < start_on i (hart_of_domain i d) k) is.machine.time is.slots early
+
+    pub seen_mailed : IsDomain i d → (order : List ℕ) → AreHartsOf i order → StandsFor i (harts i order) t
+        → AtHart t (hart_of_domain i d) (λ y. y.clock < start_on i (hart_of_domain i d) y.slots
+        → seen_of x t.memory ≡ view_mailed_on i d (arrivals d (harts i order).world) y.slots)
+    seen_mailed id order of_harts stands y at early =
+        let s = harts i order in
+        let slots = (stands.each_hart (hart_of_domain i d) y at).slots in
+        seen s stands ∙ hart_mail i d order c.accepted id of_harts (between s stands y at early)
+        ∙ ap (view_mailed_on i d (arrivals d s.world)) (sym slots)
+
+    pub seen_alone : IsDomain i d → t.off ≡ None → HasNoMail i d → AtHart t (hart_of_domain i d)
+        (λ y. y.clock < start_on i (hart_of_domain i d) y.slots → seen_of x t.memory ≡ view_alone_on i d y.slots)
+    seen_alone id all none y at early =
+        let s = harts i c.order in
+        let stands = subst (λ (o : Option Guard). StandsFor i (harts_by o i c.order) t) all c.stands in
+        let slots = (stands.each_hart (hart_of_domain i d) y at).slots in
+        seen s stands ∙ hart_isolation i d c.order c.accepted id none c.of_harts (between s stands y at early)
+        ∙ ap (view_alone_on i d) (sym slots)
 
   pub used_within : t.off ≡ None → (e : ℕ) (u : Used) → slice_get t.used.items e ≡ Some u
       → u.largest ≤ (entry_in i.all.schedule e).pad

@@ -9,7 +9,7 @@ use Rattle.guards.specs.declared.Guard.{Guard}
 use Rattle.phys_mem.specs.Mem.{Mem}
 use Rattle.repl_policy.specs.declared.AnyPolicy.{AnyPolicy}
 use Rattle.repl_policy.specs.Members.{any_rule, any_stands_for}
-use Rattle.kernel_clone.specs.Footprints.{Layout, IsLayout}
+use Rattle.kernel_clone.specs.Footprints.{IsLayout}
 use Rattle.kernel_clone.specs.Models.{layout_model}
 use Rattle.kernel_clone.specs.declared.CloneLayout.{CloneLayout}
 use Rattle.mem_system.specs.Cost.{Caches, touched_all}
@@ -20,12 +20,14 @@ use Rattle.mem_system.specs.Operations as operations
 use Rattle.domain_switch.specs.Switch.{IsSwitched, layout_if}
 use Rattle.sched_table.specs.declared.schedule.Entry.{Entry}
 use Rattle.sched_table.specs.declared.schedule.Turn.{Turn}
-use Rattle.sched_table.specs.Schedule.{harts_in, entry_of_slot, start, switch_entry, outgoing, on_hart, place_on}
-use Rattle.image_check.specs.Image.{Image, own_of}
+use Rattle.sched_table.specs.Schedule.{harts_in, switch_entry, outgoing, on_hart, place_on}
+use Rattle.image_check.specs.Image.{Image}
+use Rattle.image_check.specs.Laws.{Runnable}
 use Rattle.kernel_call.specs.declared.domain.Domain.{Domain}
+use Rattle.world_view.specs.Mail.{switched_boxes}
 use Rattle.world_view.specs.Machine.{Guards, guards_of, clone_by}
 use Rattle.world_view.specs.Relations.{IsDomain}
-use Rattle.world_view.specs.Harts.{Harts, Progress, image_on, harts_by, next_by, progress_of, slots_of, start_on}
+use Rattle.world_view.specs.Harts.{Harts, harts_by, next_by, progress_of, slots_of}
 use Rattle.world_view.specs.HartLaws.{AreHartsOf}
 use Rattle.world_view.proofs.opening.Separate.{separated}
 use Rattle.world_view.proofs.runs.GuardLaws.{are_guards}
@@ -33,7 +35,6 @@ use Rattle.world_view.proofs.harts.OnHart.{separated_on}
 use Rattle.domain_step.specs.Usage.{IsUsed, CountedUpTo}
 use Rattle.hart_orders.specs.declared.hart.Slot.{Slot}
 use Rattle.hart_orders.specs.declared.hart.Hart.{Hart as CodeHart}
-use Rattle.hart_orders.proofs.Through.{next_by_law}
 use Rattle.hart_set.specs.declared.set.State.{State}
 use Rattle.hart_set.specs.Standing.{StandsFor, IsEarly}
 use Rattle.hart_set.specs.Reached.{IsReached}
@@ -41,8 +42,13 @@ use Rattle.hart_set.specs.Slots.{NextStands, EndsSlot, SlotEnds, SlotEndsIn}
 use Rattle.hart_set.specs.Turns.{IsTurn}
 use Rattle.hart_set.proofs.Bounds.{counted, in_bounds_next}
 use Rattle.hart_set.proofs.Others.{in_none}
-use Rattle.hart_set.proofs.Called.{Called, s, holds, held_at, its, few, pushed, reached_next}
-use Rattle.hart_set.proofs.Beginning.{SwitchGiven, AreGiven, Switches, stands_begun}
+use Rattle.hart_set.proofs.Called.{Called, s, holds, held_at, pushed, reached_next}
+use Rattle.hart_set.proofs.Beginning.{SwitchGiven, AreGiven, stands_begun}
+
+-- an image's domains are few
+pub few_numbers : (i : Image) → Runnable i → (o : Option ℕ) → IfSome o (IsDomain i) → IfSome o (λ d. d < 32)
+few_numbers i r None named = tt
+few_numbers i r (Some d) named = let few = r.few_domains in omega (arith, few, named)
 
 module _ (i : Image) (t : State) (h : ℕ) (x : CodeHart) (c : Called i t h x) (between : x.slot ≡ None) where
   abbrev g : Guards
@@ -104,6 +110,7 @@ module _ (i : Image) (t : State) (h : ℕ) (x : CodeHart) (c : Called i t h x) (
         (t' : State) (x' : CodeHart) : Type 0 where
       pub off : t.off ≡ t'.off
       pub memory : t'.memory ≡ t.memory
+      pub mail : t'.mail ≡ switched_boxes (outgoing (on_hart i.all.schedule h) x.slots) turn.entry.domain t.mail
       pub l2 : t'.l2 ≡ l2'
       pub core : x'.core ≡ core'
       pub clock : x'.clock ≡ now
@@ -168,6 +175,10 @@ module _ (i : Image) (t : State) (h : ℕ) (x : CodeHart) (c : Called i t h x) (
             (record {
               off = left.off;
               memory = left.memory;
+              mail =
+                  left.mail
+                  ∙ ap₂ (λ (n : ℕ) (e : Entry). switched_boxes (outgoing (on_hart i.all.schedule h) n) e.domain t.mail)
+                  k_is now_turn.entry;
               l2 = left.l2;
               core = left.core;
               clock = left.clock;

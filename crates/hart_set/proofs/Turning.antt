@@ -1,7 +1,6 @@
 -- What a hart's next switch goes by, as the code finds it.
-use Rattle.std.proofs.Common.{◌≡◌, ◌∙◌, ℕ, zero, suc, ◌<◌, List, Some, None, length, refl, sym, ap, subst, arith}
-use Rattle.std.specs.Prelude.{slice_get, slice_index_or}
-use Rattle.kernel_clone.specs.Models.{layout_model}
+use Rattle.std.proofs.Common.{◌≡◌, ◌∙◌, ℕ, zero, suc, ◌<◌, List, Some, None, length, refl, sym, ap, subst}
+use Rattle.std.specs.Prelude.{slice_index_or}
 use Rattle.sched_table.specs.declared.schedule.Entry.{Entry}
 use Rattle.sched_table.specs.declared.schedule.Turn.{Turn}
 use Rattle.sched_table.specs.Schedule.{entry_in, entry_of_slot, switch_entry, start, last_end, outgoing, entries_on, on_hart, harts_in, hart_schedules}
@@ -9,8 +8,6 @@ use Rattle.image_check.specs.declared.public.Public.{Public as CodePublic}
 use Rattle.image_check.specs.Public.{Public}
 use Rattle.image_check.specs.Models.{public_model}
 use Rattle.image_check.specs.Image.{Image}
-use Rattle.kernel_call.specs.declared.domain.Domain.{Domain}
-use Rattle.world_view.specs.Machine.{Guards, guards_of, clone_by}
 use Rattle.world_view.specs.Relations.{IsDomain}
 use Rattle.world_view.proofs.harts.OnHart.{placed_switch}
 use Rattle.world_view.proofs.harts.Schedules.{one_each as every_hart, own_entries as entries_at}
@@ -42,9 +39,14 @@ turn_on es own h k t same entry begins ended last =
 
 -- ---- the domain whose slot was last
 
--- nobody's before its first slot
-pub clone_first : (g : Guards) (es : List Entry) (k : ℕ) → k ≡ 0 → None ≡ clone_by g (outgoing es k)
-clone_first g es k none = ap (λ (n : ℕ). clone_by g (outgoing es n)) (sym none)
+-- nobody before its first slot
+pub none_first : (es : List Entry) (k : ℕ) → k ≡ 0 → None ≡ outgoing es k
+none_first es k none = ap (outgoing es) (sym none)
+
+pub last_leaves : (es : List Entry) (k : ℕ) (ended : Entry) → (k ≡ 0 → ⊥) → ended ≡ entry_in es (switch_entry es k)
+    → Some ended.domain ≡ outgoing es k
+last_leaves es zero ended some is = absurd (some refl)
+last_leaves es (suc last) ended some is = ap (λ (e : Entry). Some e.domain) is
 
 module _ (i : Image) (t : State) (h : ℕ) (x : CodeHart) (c : Called i t h x) (ended : Entry)
     (is : ended ≡ entry_in (on_hart i.all.schedule h) (switch_entry (on_hart i.all.schedule h) x.slots)) where
@@ -53,16 +55,3 @@ module _ (i : Image) (t : State) (h : ℕ) (x : CodeHart) (c : Called i t h x) (
       let r = c.reached.accepted in
       let placed = placed_switch i r h c.below x.slots in
       subst (λ (e : Entry). IsDomain i e.domain) (sym (is ∙ placed.same)) (r.named _ placed.there)
-
-  pub ended_there : ended.domain < length t.domains.items
-  ended_there = let named = ended_named in let all = c.reached.stands.all_domains in omega (arith, named, all)
-
-  own_clone : (k : ℕ) → (k ≡ 0 → ⊥)
-      → ended ≡ entry_in (on_hart i.all.schedule h) (switch_entry (on_hart i.all.schedule h) k)
-      → Some ((guards_of t.off i).clone ended.domain) ≡ clone_by (guards_of t.off i) (outgoing (on_hart i.all.schedule h) k)
-  own_clone zero some was = absurd (some refl)
-  own_clone (suc last) some was = ap (λ (e : Entry). Some ((guards_of t.off i).clone e.domain)) was
-
-  pub clone_before : (y : Domain) → slice_get t.domains.items ended.domain ≡ Some y → (x.slots ≡ 0 → ⊥)
-      → Some (layout_model y.layout) ≡ clone_by (guards_of t.off i) (outgoing (on_hart i.all.schedule h) x.slots)
-  clone_before y got some = ap Some (c.reached.stands.each_domain ended.domain y got).layout ∙ own_clone x.slots some is

@@ -32,11 +32,11 @@ abbrev pub ended_if : Bool → Guards → Image → ℕ → ℕ → World → �
 ended_if true g i h k w = end_by g i h k w
 ended_if false g i h k w = ended_by g (image_on i h) h k w
 
--- over the one memory and second level: each set of each of its caches and of its buffer, the predictor's counters, and its
--- clock; how far it is, and when its slot ends or ended; and in a slot its buffer keeps what walks of that domain's page tables
--- find
+-- over the one memory, the boxes and the second level: each set of each of its caches and of its buffer, the predictor's
+-- counters, and its clock; how far it is, and when its slot ends or ended; and in a slot its buffer keeps what walks of that
+-- domain's page tables find
 pub record HartStands (i : Image) (s : Harts) (t : State) (h : ℕ) (x : Hart) : Type 0 where
-  pub machine : MachineStands i.all.hardware (guards_of t.off i).levels false t.memory (system x.core t.l2)
+  pub machine : MachineStands i.all.hardware (guards_of t.off i).levels false t.memory t.mail (system x.core t.l2)
       x.clock
       s.world.storage (caches_of h s.world) (clock_of h s.world)
   pub slots : x.slots ≡ slots_of h s

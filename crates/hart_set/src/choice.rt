@@ -92,5 +92,7 @@ pub fn named(names: &Names, word: u32) -> Option<u8>
     if names.many == 0 {
         return None;
     }
-    Some(names.numbers[word as usize % names.many])
+    // (a remainder of 32 bits takes a third of the time of one of 64)
+    let at = word % names.many as u32;
+    Some(names.numbers[at as usize])
 }

@@ -126,7 +126,9 @@ fn run_all(harts: &mut HartSet<'_>, choice: Choice, slots: u32)
 
 impl<'a> HartRun<'a> {
     ghost use Rattle.std.specs.Prelude.{◌≡◌, ◌<◌, ◌≤◌, length, IfOk};
-    ghost use Rattle.world_view.specs.Harts.{view_alone_on};
+    ghost use Rattle.world_view.specs.Harts.{view_mailed_on, view_alone_on};
+    ghost use Rattle.world_view.specs.Machine.{arrivals};
+    ghost use Rattle.world_view.specs.Relations.{HasNoMail};
     ghost use Rattle.world_view.specs.View.{view_in};
     ghost use Rattle.domain_view.specs.Models.{view_model};
     ghost use Rattle.domain_step.specs.Usage.{IsUsed};
@@ -164,11 +166,15 @@ impl<'a> HartRun<'a> {
         self.harts.image()
     }
 
-    /// What is seen of a domain: that is what is seen of it alone, whatever the choice.
+    /// What is seen of a domain: that is what is seen of it alone, whatever the choice, with
+    /// what came to it in boxes: where no box leads to it, nothing.
     pub fn view(&self, d: u8) -> View<'_>
         requires domain { d < length (image_of self.now).owns }
         ensures view { view_model result ≡ view_in (image_of self.now) d (world_of self.now) }
-        ensures alone { view_model result ≡ view_alone_on (image_of self.now) d self.now.slots }
+        ensures mailed { view_model result ≡ view_mailed_on (image_of self.now) d
+            (arrivals d (world_of self.now)) self.now.slots }
+        ensures alone { HasNoMail (image_of self.now) d
+            → view_model result ≡ view_alone_on (image_of self.now) d self.now.slots }
     {
         self.harts.view(d)
     }

@@ -4,6 +4,7 @@ use hart_orders::Hart;
 use image_check::Checked;
 use kernel_call::Domain;
 use l2_colour::L2;
+use mail_slots::Mail;
 use phys_mem::PhysMem;
 use repl_policy::AnyPolicy;
 use std::marker::Model;
@@ -20,6 +21,7 @@ pub struct State {
     pub l2: L2<AnyPolicy>,
     pub harts: Vec<Hart>,
     pub domains: Vec<Domain>,
+    pub mail: Mail,
     /// By entry of the schedule.
     pub used: Vec<Used>,
 }

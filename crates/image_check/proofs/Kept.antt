@@ -19,6 +19,7 @@ use Rattle.domain_check.specs.Names.{most_domains, k7, k7_domain}
 use Rattle.domain_check.specs.Calls.{k18}
 use Rattle.image_check.specs.Pads.{k17}
 use Rattle.schedule_check.specs.Harts.{k19}
+use Rattle.schedule_check.specs.Mail.{k20, box_of}
 use Rattle.schedule_check.proofs.Counts.{Within, counted, at_most}
 use Rattle.hardware_check.specs.Hardware.{Hardware, hardware_of}
 use Rattle.sched_table.specs.declared.schedule.Entry.{Entry}
@@ -97,18 +98,22 @@ kept_before_pads i e = kept_before_those i [] e
 record KeepsAfterPads (i : Raw) : Type 0 where
   calls : k18 i ≡ None
   harts : k19 i ≡ None
+  mail : k20 i ≡ None
   extensions : k22 i ≡ None
 
 kept_after_pads : (i : Raw) → broken_of rules_after_pads i [] ≡ [] → KeepsAfterPads i
 unfolding rules_after_pads
 kept_after_pads i e =
-    let last = ended_by (k22 i) [] in
-    let later = ended_by (k19 i) last in
-    let from19 = none_later (k18 i) later e in
+    let after20 = ended_by (k22 i) [] in
+    let after19 = ended_by (k20 i) after20 in
+    let after18 = ended_by (k19 i) after19 in
+    let from19 = none_later (k18 i) after18 e in
+    let from20 = none_later (k19 i) after19 from19 in
     record {
-      calls = none_here (k18 i) later e;
-      harts = none_here (k19 i) last from19;
-      extensions = none_here (k22 i) [] (none_later (k19 i) last from19);
+      calls = none_here (k18 i) after18 e;
+      harts = none_here (k19 i) after19 from19;
+      mail = none_here (k20 i) after20 from20;
+      extensions = none_here (k22 i) [] (none_later (k20 i) after20 from20);
     }
 
 pub kept_but_pads : (i : Raw) → broken_but_pads i ≡ [] → KeepsButPads i
@@ -116,7 +121,13 @@ unfolding broken_but_pads
 kept_but_pads i e =
     let later = broken_of rules_after_pads i [] in
     let after = kept_after_pads i (later_empty rules_before_pads i later e) in
-    record { before = kept_before_those i later e; calls = after.calls; harts = after.harts; extensions = after.extensions }
+    record {
+      before = kept_before_those i later e;
+      calls = after.calls;
+      harts = after.harts;
+      mail = after.mail;
+      extensions = after.extensions;
+    }
 
 pub extensions_law : ExtensionsLaw
 extensions_law i e = extensions_said i (kept_but_pads i e).extensions
@@ -143,14 +154,14 @@ later_alone i later k =
       k.schedule,
     ) refl
 
--- three rules come after that of pads
-after_pads : (i : Raw) (o p q : Option Refusal) → k18 i ≡ o → k19 i ≡ p → k22 i ≡ q
-    → broken_of rules_after_pads i [] ≡ ended_by o (ended_by p (ended_by q []))
+-- four rules come after that of pads
+after_pads : (i : Raw) (o p q r : Option Refusal) → k18 i ≡ o → k19 i ≡ p → k20 i ≡ q → k22 i ≡ r
+    → broken_of rules_after_pads i [] ≡ ended_by o (ended_by p (ended_by q (ended_by r [])))
 unfolding rules_after_pads
-after_pads i o p q e f g = rw (e, f, g) refl
+after_pads i o p q r e f g h = rw (e, f, g, h) refl
 
 none_after_pads : (i : Raw) → KeepsButPads i → broken_of rules_after_pads i [] ≡ []
-none_after_pads i k = after_pads i None None None k.calls k.harts k.extensions
+none_after_pads i k = after_pads i None None None None k.calls k.harts k.mail k.extensions
 
 unbroken_but_pads : (i : Raw) → KeepsButPads i → broken_but_pads i ≡ []
 unfolding broken_but_pads
@@ -294,14 +305,17 @@ few_raw_domains raw e = omega (arith, length-map raw.domains.items domain_model,
 
 -- ---- what all domains may know
 
-pub public_made : (i : Raw) (h : Hardware) (entries : List Entry) (domains : ℕ) → h ≡ hardware_of i
-    → entries ≡ map entry_of i.schedule
-    → domains ≡ length i.domains → record { version = i.version; hardware = h; schedule = entries; domains = domains } ≡ public_of i
+pub public_made : (i : Raw) (h : Hardware) (entries : List Entry) (domains : ℕ) (mail : List (ℕ × ℕ))
+    → h ≡ hardware_of i → entries ≡ map entry_of i.schedule → domains ≡ length i.domains
+    → mail ≡ map box_of i.mail → record {
+      version = i.version;
+      hardware = h;
+      schedule = entries;
+      domains = domains;
+      mail = mail;
+    } ≡ public_of i
 unfolding public_of
-public_made i h entries domains machine said many =
-    ap (λ (p : Hardware). record { version = i.version; hardware = p; schedule = entries; domains = domains }) machine
-    ∙ ap (λ (es : List Entry). record { version = i.version; hardware = hardware_of i; schedule = es; domains = domains }) said
-    ∙ ap (λ (n : ℕ). record { version = i.version; hardware = hardware_of i; schedule = map entry_of i.schedule; domains = n }) many
+public_made i h entries domains mail machine said many boxes = rw (machine, said, many, boxes) refl
 
 -- ---- what a `?` hands on
 

@@ -12,12 +12,13 @@ use Rattle.image_record.specs.declared.refusal.Refusal.{Refusal}
 use Rattle.image_record.specs.Cases.{first_in, refusal}
 use Rattle.kernel_clone.specs.Permissions.{every_call}
 use Rattle.kernel_clone.proofs.CallLaws.{mail_within}
+use Rattle.pad_bound.specs.Worst.{AreWithin}
 use Rattle.domain_check.specs.Calls.{calls_in}
 use Rattle.domain_check.specs.declared.capabilities.InitialCap.TheVariants.{None as NoCap, Page, Irq}
 use Rattle.domain_check.specs.Segments.{k12, k12_domain, segment_case, entry_case, bytes_case, bytes_in, bytes_or_none, has_read, has_write, has_execute, rights_of, is_rights, share_page, k12_refusal}
 use Rattle.image_check.specs.Pages.{has_page}
 use Rattle.domain_check.specs.Capabilities.{cap_of}
-use Rattle.image_check.specs.Own.{Own, Segment, segment_of, own_from, owns_from, owns_of, no_own, own_at, no_segment, has_line}
+use Rattle.image_check.specs.Own.{Own, Segment, segment_of, own_from, owns_from, owns_of, has_mail, makes_of, no_own, own_at, no_segment, has_line}
 use Rattle.image_check.specs.Laws.{KeepsBeforePads, IsSegment, IsOwn}
 use Rattle.schedule_check.specs.Interrupts.{k14, moment_of}
 use Rattle.irq_partition.specs.declared.Moment.{Moment}
@@ -30,26 +31,26 @@ use Rattle.image_record.proofs.FirstCases.{or_first, if_first, if_rest, first_in
 
 pub owns_length : (i : Raw) → length (owns_of i) ≡ length i.domains
 unfolding owns_of
-owns_length i = in_order 0 i.domains
+owns_length i = in_order 0 (has_mail i) i.domains
   where
-    in_order : (n : ℕ) (os : List RawDomain) → length (owns_from n os) ≡ length os
-    in_order n [] = refl
-    in_order n (o ∷ os) = ap suc (in_order (n + 1) os)
+    in_order : (n : ℕ) (mail : Bool) (os : List RawDomain) → length (owns_from n mail os) ≡ length os
+    in_order n mail [] = refl
+    in_order n mail (o ∷ os) = ap suc (in_order (n + 1) mail os)
 
 pub owns_at : (i : Raw) (d : ℕ) → d < length i.domains
-    → own_at (owns_of i) d ≡ own_from d (raw_domain i.domains d)
+    → own_at (owns_of i) d ≡ own_from d (has_mail i) (raw_domain i.domains d)
 unfolding owns_of
 owns_at i d l =
     let same : 0 + d ≡ d = omega arith in
-    in_order 0 i.domains d l ∙ ap (λ (n : ℕ). own_from n (raw_domain i.domains d)) same
+    in_order 0 i.domains d l ∙ ap (λ (n : ℕ). own_from n (has_mail i) (raw_domain i.domains d)) same
   where
     in_order : (n : ℕ) (os : List RawDomain) (k : ℕ) → k < length os
-        → own_at (owns_from n os) k ≡ own_from (n + k) (raw_domain os k)
+        → own_at (owns_from n (has_mail i) os) k ≡ own_from (n + k) (has_mail i) (raw_domain os k)
     in_order n [] k l = absurd (omega (arith, l))
-    in_order n (o ∷ os) zero l = let same : n ≡ n + 0 = omega arith in ap (λ (m : ℕ). own_from m o) same
+    in_order n (o ∷ os) zero l = let same : n ≡ n + 0 = omega arith in ap (λ (m : ℕ). own_from m (has_mail i) o) same
     in_order n (o ∷ os) (suc k) l =
         let same : n + 1 + k ≡ n + suc k = omega arith in
-        in_order (n + 1) os k (omega (arith, l)) ∙ ap (λ (m : ℕ). own_from m (raw_domain os k)) same
+        in_order (n + 1) os k (omega (arith, l)) ∙ ap (λ (m : ℕ). own_from m (has_mail i) (raw_domain os k)) same
 
 -- each has its place as its number
 pub owns_numbered : (i : Raw) (d : ℕ) → d < length i.domains → (own_at (owns_of i) d).number ≡ d
@@ -215,8 +216,13 @@ segments_apart d ss none j k n less below here =
 
 -- ---- owns
 
+-- those of the calls that it lists which a domain may make are of those
+makes_within : (mail : Bool) (calls : ℕ) → AreWithin (makes_of mail calls) calls
+makes_within true calls n may = may
+makes_within false calls n may = mail_within calls n may
+
 own_sound : (i : Raw) (d : ℕ) → InKeyRanges i → KeepsBeforePads i → d < length i.domains
-    → IsOwn (own_from d (raw_domain i.domains d))
+    → IsOwn (own_from d (has_mail i) (raw_domain i.domains d))
 unfolding k12 k12_domain own_from
 own_sound i d ranges rules l =
     let o = raw_domain i.domains d in
@@ -232,16 +238,16 @@ own_sound i d ranges rules l =
       segments = segments_sound place o.segments here (ranges.segments d);
       apart = segments_apart place o.segments here;
       few_caps = omega (arith, length-map o.caps cap_of, has.few);
-      pages = has_its_page d o has;
-      page_once = λ j k m. named_once d o has (Page m) (λ (z : Page m ≡ NoCap). cc) j k;
-      few_lines = few_lines d o has irqs;
-      line_once = λ j k m. named_once d o has (Irq m) (λ (z : Irq m ≡ NoCap). cc) j k;
+      pages = has_its_page d (has_mail i) o has;
+      page_once = λ j k m. named_once d (has_mail i) o has (Page m) (λ (z : Page m ≡ NoCap). cc) j k;
+      few_lines = few_lines d (has_mail i) o has irqs;
+      line_once = λ j k m. named_once d (has_mail i) o has (Irq m) (λ (z : Irq m ≡ NoCap). cc) j k;
       lines = line_below o irqs;
       few_moments = omega (arith, length-map o.moments moment_of, irqs.few);
       moments = moments_sound o irqs;
       early = early o irqs;
       own_lines = own_line o irqs;
-      listed = λ n may. mail_within (calls_in o.calls) n may;
+      listed = makes_within (has_mail i) (calls_in o.calls);
     }
 
 no_own_sound : IsOwn no_own
@@ -260,7 +266,7 @@ no_own_sound = record {
   moments = record { lines = λ k x e. absurd (no_moment k x e); ascend = λ j k x y less e. absurd (no_moment j x e) };
   early = λ k x e. absurd (no_moment k x e);
   own_lines = λ k x e. absurd (no_moment k x e);
-  listed = λ n may. mail_within every_call n may;
+  listed = makes_within false every_call;
 }
   where
     no_page : (n : ℕ) → NoCap ≢ Page n
@@ -286,7 +292,7 @@ unfolding own_from
 lines_owned i k d e n l m other mine = false_from_ne_true (has_line (own_at (owns_of i) e) n) (λ theirs. either theirs (cases_lt e d))
   where
     raw : (c : ℕ) → c < length i.domains → has_line (own_at (owns_of i) c) n ≡ true
-        → has_line (own_from c (raw_domain i.domains c)) n ≡ true
+        → has_line (own_from c (has_mail i) (raw_domain i.domains c)) n ≡ true
     raw c below h = subst (λ (o : Own). has_line o n ≡ true) (owns_at i c below) h
 
     either : has_line (own_at (owns_of i) e) n ≡ true → (e < d) ⊎ (d ≤ e) → ⊥

@@ -23,7 +23,7 @@ use Rattle.hardware_check.specs.Hardware.{Hardware, mul_of, div_of, IsHardware, 
 use Rattle.hardware_check.proofs.Built.{hardware_law}
 use Rattle.image_record.proofs.FirstCases.{if_first, first_in_none}
 use Rattle.domain_check.specs.Calls.{own_calls}
-use Rattle.image_check.specs.Own.{own_from, owns_from, owns_of, own_at}
+use Rattle.image_check.specs.Own.{own_from, owns_from, owns_of, has_mail, own_at}
 use Rattle.image_check.specs.Pads.{most_added, shape_for, shape_for_every_call, bound_out_of, k17, k17_case, k17_entry, k17_by}
 use Rattle.schedule_check.specs.Schedule.{entry_of}
 use Rattle.image_check.specs.Laws.{Keeps, KeepsBeforePads, ShapeLaw}
@@ -109,12 +109,12 @@ pads_enough i k e l =
 
 -- ---- the calls of each domain, as the code has them
 
-calls_at : (first : ℕ) (ds : List RawDomain) (n : ℕ)
-    → (own_at (owns_from first ds) n).calls ≡ slice_index_or (map own_calls ds) n every_call
+calls_at : (first : ℕ) (mail : Bool) (ds : List RawDomain) (n : ℕ)
+    → (own_at (owns_from first mail ds) n).calls ≡ slice_index_or (map own_calls ds) n every_call
 unfolding own_from
-calls_at first [] n = refl
-calls_at first (o ∷ ds) zero = refl
-calls_at first (o ∷ ds) (suc n) = calls_at (first + 1) ds n
+calls_at first mail [] n = refl
+calls_at first mail (o ∷ ds) zero = refl
+calls_at first mail (o ∷ ds) (suc n) = calls_at (first + 1) mail ds n
 
 same_cases : {A R : Type 0} (f g : List A → A → Option R)
     → ((earlier : List A) (x : A) → f earlier x ≡ g earlier x)
@@ -129,7 +129,7 @@ by_calls : (i : Raw) (earlier : List RawEntry) (e : RawEntry)
 unfolding bound_out_of owns_of
 by_calls i earlier e =
     ap (λ (calls : ℕ). k17_case (bound_of (shape_for (hardware_of i) calls)) (length earlier) e)
-    (sym (calls_at 0 i.domains (natural_of e.domain)))
+    (sym (calls_at 0 (has_mail i) i.domains (natural_of e.domain)))
 
 pub k17_by_calls : (i : Raw)
     → first_in (k17_by (shape_for_every_call (hardware_of i)) (map own_calls i.domains)) i.schedule ≡ k17 i

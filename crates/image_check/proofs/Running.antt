@@ -14,6 +14,7 @@ use Rattle.image_check.proofs.Kept.{kept, kept_but_pads, none_but_pads, keeps_ha
 use Rattle.schedule_check.proofs.Counts.{entries_pass}
 use Rattle.schedule_check.proofs.Entries.{entry_in_passed, schedule_sound}
 use Rattle.schedule_check.proofs.HartsKept.{harts_kept}
+use Rattle.schedule_check.proofs.MailKept.{mail_kept}
 use Rattle.image_check.proofs.Padded.{pads_enough}
 use Rattle.image_check.proofs.Owns.{owns_length, owns_numbered, owns_sound, lines_owned}
 use Rattle.image_check.proofs.Shares.{disjoint_colours, pools_enough}
@@ -62,6 +63,7 @@ runnable_law i ranges n =
       harts = harts_law i (none_but_pads i n);
       padded = λ e l. pads_enough i (kept i n) e (omega (arith, long, l));
       sound = owns_sound i ranges rules;
+      boxes = mail_kept i (kept i n).others.mail;
       numbered = λ d l. owns_numbered i d (omega (arith, many, l));
       owned = λ d e n l m. lines_owned i rules.lines d e n (omega (arith, many, l)) (omega (arith, many, m));
     }

@@ -21,7 +21,7 @@ use Rattle.image_record.proofs.Listed.{found}
 use Rattle.domain_check.proofs.Slots.{slots, small_caps}
 use Rattle.schedule_check.proofs.OwnInterrupts.{interrupts, named_line}
 use Rattle.domain_check.proofs.Shares.{named, two_apart}
-use Rattle.image_check.specs.Own.{Own, Segment, IsSmallOwn, no_own, own_at, own_from, owns_of, segment_of}
+use Rattle.image_check.specs.Own.{Own, Segment, IsSmallOwn, no_own, own_at, own_from, owns_of, has_mail, segment_of}
 use Rattle.image_check.specs.Pages.{regions_below, frames_in, share_of}
 use Rattle.image_check.specs.Laws.{KeepsBeforePads}
 use Rattle.image_check.specs.Checking.{k8_in_machine, k10_in_machine, broken_but_pads}
@@ -122,14 +122,14 @@ enough : (d frames need : ℕ) → need_case d frames need ≡ None → need ≤
 enough d frames need n = ltb-false frames need (if_first (nat_lt frames need) (refusal 10 (pos d) (pos frames) (pos need)) None n)
 
 raw_pools : (i : text.Raw) → k10_in_machine i ≡ None → (d : ℕ) → d < length i.domains
-    → frames_in (own_from d (raw_domain i.domains d)).segments
-    ≤ length (pool (share_of (hardware_of i) (own_from d (raw_domain i.domains d))))
+    → frames_in (own_from d (has_mail i) (raw_domain i.domains d)).segments
+    ≤ length (pool (share_of (hardware_of i) (own_from d (has_mail i) (raw_domain i.domains d))))
 unfolding k10 k10_case own_from
 raw_pools i n d l =
     let o = raw_domain i.domains d in
     let ss = map segment_of o.segments in
     let here = first_in_none (k10_domain (whole_of (hardware_of i).frames (colours_of (hardware_of i)))) i.domains n d l no_raw_domain in
-    let most = enough (length (take d i.domains)) (length (pool (share_of (hardware_of i) (own_from d o)))) (need_of ss) here in
+    let most = enough (length (take d i.domains)) (length (pool (share_of (hardware_of i) (own_from d (has_mail i) o)))) (need_of ss) here in
     let more = regions_more ss 1024 in
     omega (arith, most, more)
 

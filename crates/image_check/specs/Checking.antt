@@ -15,6 +15,7 @@ use Rattle.schedule_check.specs.Interrupts.{k14, k15}
 use Rattle.domain_check.specs.Calls.{k18}
 use Rattle.image_check.specs.Pads.{k17}
 use Rattle.schedule_check.specs.Harts.{k19}
+use Rattle.schedule_check.specs.Mail.{k20}
 
 -- the rules of colours and frames, where there are as many as the machine has
 abbrev pub k8_in_machine : Raw → Option Refusal
@@ -30,7 +31,7 @@ rules_before_pads =
 
 -- those after it
 unfoldable pub rules_after_pads : List (Raw → Option Refusal)
-rules_after_pads = k18 ∷ k19 ∷ k22 ∷ []
+rules_after_pads = k18 ∷ k19 ∷ k20 ∷ k22 ∷ []
 
 -- a broken rule ends the tests
 abbrev pub ended_by : Option Refusal → List Refusal → List Refusal

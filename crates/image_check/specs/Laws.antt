@@ -24,6 +24,8 @@ use Rattle.pad_bound.specs.Bound.{IsShape, bound_of}
 use Rattle.pad_bound.specs.Worst.{AreWithin}
 use Rattle.image_check.specs.Pads.{shape_for, k17}
 use Rattle.schedule_check.specs.Harts.{k19}
+use Rattle.schedule_check.specs.Mail.{k20}
+pub use Rattle.schedule_check.specs.Mail.{AreBoxes}
 use Rattle.image_check.specs.Checking.{k8_in_machine, k10_in_machine, broken, broken_but_pads}
 use Rattle.image_check.specs.Own.{Segment, Own, segment_at, cap_at, has_line}
 use Rattle.image_check.specs.Pages.{has_page, has_page_in, frames_in, share_of}
@@ -51,6 +53,7 @@ pub record KeepsButPads (i : text.Raw) : Type 0 where
   pub before : KeepsBeforePads i
   pub calls : k18 i ≡ None
   pub harts : k19 i ≡ None
+  pub mail : k20 i ≡ None
   pub extensions : k22 i ≡ None
 
 -- no rule has
@@ -147,6 +150,7 @@ pub record Runnable (i : Image) : Type 0 where
   pub padded : (e : ℕ) → e < length i.all.schedule → bound_after i e ≤ (entry_in i.all.schedule e).pad
   pub sound : (d : ℕ) → IsOwn (own_of i d)
   pub numbered : (d : ℕ) → d < length i.owns → (own_of i d).number ≡ d
+  pub boxes : AreBoxes i.all.domains i.all.mail
   pub owned : (d e n : ℕ) → d < length i.owns → e < length i.owns → d ≢ e
       → has_line (own_of i d) n ≡ true → has_line (own_of i e) n ≡ false
 

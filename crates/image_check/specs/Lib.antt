@@ -9,3 +9,4 @@ pub mod Models
 pub mod Standing
 pub mod Outcomes
 pub mod Parts
+pub mod Example

@@ -13,6 +13,7 @@ public_model p = record {
   hardware = hardware_model p.hardware;
   schedule = p.schedule;
   domains = p.domains;
+  mail = p.mail.items;
 }
 
 abbrev pub own_model : Own → own_spec.Own

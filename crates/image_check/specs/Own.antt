@@ -1,5 +1,5 @@
 -- What is one domain's own in an image.
-use Rattle.std.specs.Prelude.{ℕ, ◌+◌, Bool, List, [], ◌∷◌, map, slice_index_or}
+use Rattle.std.specs.Prelude.{ℕ, ◌+◌, nat_lt, if◌then◌else◌, length, Bool, List, [], ◌∷◌, map, slice_index_or}
 use Rattle.std.specs.List.{All}
 use Rattle.irq_partition.specs.declared.Moment.{Moment}
 use Rattle.frame_colours.specs.Colours.{has}
@@ -24,14 +24,18 @@ pub record Own : Type 0 where
   pub lines : List ℕ  -- its interrupt lines
   pub moments : List Moment  -- when they interrupt it
   pub calls : ℕ  -- those that it lists, a bit each: its pads are bound by them
-  pub makes : ℕ  -- those that it may make in this image, which has no mailboxes, a bit each
+  pub makes : ℕ  -- those that it may make in this image, a bit each
 
 -- the numbers of what its slots name fit those of the code
 pub record IsSmallOwn (o : RawDomain) : Type 0 where
   pub caps : All IsSmallCap (map cap_of o.caps)
 
-unfoldable pub own_from : ℕ → RawDomain → Own
-own_from n o = record {
+-- those of the calls that it lists which a domain may make: in an image without mailboxes none on them
+abbrev pub makes_of : Bool → ℕ → ℕ
+makes_of mail calls = if mail then calls else without_mail calls
+
+unfoldable pub own_from : ℕ → Bool → RawDomain → Own
+own_from n mail o = record {
   number = n;
   name = o.name;
   colours = map natural_of o.colours;
@@ -41,16 +45,20 @@ own_from n o = record {
   lines = map natural_of o.lines;
   moments = map moment_of o.moments;
   calls = calls_in o.calls;
-  makes = without_mail (calls_in o.calls);
+  makes = makes_of mail (calls_in o.calls);
 }
 
 -- in their order, of which the first has this number
-abbrev pub owns_from : ℕ → List RawDomain → List Own
-owns_from n [] = []
-owns_from n (o ∷ os) = own_from n o ∷ owns_from (n + 1) os
+abbrev pub owns_from : ℕ → Bool → List RawDomain → List Own
+owns_from n mail [] = []
+owns_from n mail (o ∷ os) = own_from n mail o ∷ owns_from (n + 1) mail os
+
+-- whether it declares a mailbox
+abbrev pub has_mail : Raw → Bool
+has_mail i = nat_lt 0 (length i.mail)
 
 unfoldable pub owns_of : Raw → List Own
-owns_of i = owns_from 0 i.domains
+owns_of i = owns_from 0 (has_mail i) i.domains
 
 abbrev pub no_own : Own
 no_own = record {

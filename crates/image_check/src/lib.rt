@@ -1,8 +1,9 @@
 //! The rules that an image must keep, in their order: those of the machine, of
 //! the domains, of their interrupt lines and moments and of the schedule, of pads,
-//! calls and harts, and that of products and the target buffer; an image that keeps them all, with what all domains may
-//! know of it and what each has of its own; and one that keeps all but the rule
-//! of pads, with what the bound on a switch depends on.
+//! calls, harts and mailboxes, and that of products and the target buffer; an image that
+//! keeps them all, with what all domains may know of it and what each has of its own;
+//! and one that keeps all but the rule of pads, with what the bound on a switch depends
+//! on.
 #![tactic(auto)]
 
 mod checked;

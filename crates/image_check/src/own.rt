@@ -37,7 +37,8 @@ pub struct Own {
     /// The calls that it lists, a bit each: bit n is that of call n. Its pads are
     /// bound by them.
     pub calls: u32,
-    /// The calls that it may make in this image, a bit each: none on mailboxes, as it has none.
+    /// The calls that it may make in this image, a bit each: in one without mailboxes
+    /// none on them.
     pub makes: u32,
 }
 
@@ -50,7 +51,7 @@ pub struct DomainPart {
     pub caps: Vec<Named>,
     pub lines: Vec<u8>,
     pub moments: Vec<Moment>,
-    /// The calls that it may make, a bit each.
+    /// The calls that it lists, a bit each.
     pub calls: u32,
 }
 
@@ -63,7 +64,7 @@ pub struct DomainParts {
     pub caps: Vec<Vec<Named>>,
     pub lines: Vec<Vec<u8>>,
     pub moments: Vec<Vec<Moment>>,
-    /// Those that each may make, a bit each.
+    /// Those that each lists, a bit each.
     pub calls: Vec<u32>,
 }
 
@@ -87,16 +88,25 @@ impl DomainParts {
     }
 }
 
+// Those of the calls that a domain lists which it may make: in an image without
+// mailboxes none on them.
+fn makes_of(calls: u32, mail: bool) -> u32
+    ensures value { result ≡ spec.makes_of mail calls }
+{
+    if mail { calls } else { without_mail(calls) }
+}
+
 #[tactic(auto, unfolding(crate::specs::Own::own_from))]
 fn own_from(
     alloc: Global,
     number: DomainNo,
+    mail: bool,
     domain: &RawDomain,
     part: DomainPart,
 ) -> Result<Own, CheckRefusal>
     requires small { spec.IsSmallOwn (domain_model domain.now) }
     requires part { IsPartOf part (domain_model domain.now) }
-    ensures value { Makes own_model result (spec.own_from number (domain_model domain.now)) }
+    ensures value { Makes own_model result (spec.own_from number mail (domain_model domain.now)) }
 {
     let name = String::from_str(alloc, domain.name.as_str())?;
     let caps = caps_from(alloc, part.caps.as_slice())?;
@@ -110,7 +120,7 @@ fn own_from(
         lines: part.lines,
         moments: part.moments,
         calls: part.calls,
-        makes: without_mail(part.calls),
+        makes: makes_of(part.calls, mail),
     })
 }
 
@@ -118,23 +128,32 @@ fn owns_in(
     alloc: Global,
     domains: &[RawDomain],
     parts: &mut DomainParts,
+    mail: bool,
 ) -> Result<Vec<Own>, CheckRefusal>
     requires small { All (λ o. spec.IsSmallOwn (domain_model o)) domains.now }
     requires few { length domains.now ≤ 32 }
     requires parts { ArePartsOf parts.old (map domain_model domains.now) }
     ensures value { Makes (λ v. map own_model v.items) result
-        (spec.owns_from 0 (map domain_model domains.now)) }
+        (spec.owns_from 0 mail (map domain_model domains.now)) }
 {
     let mut owns = Vec::new(alloc);
     for (number, domain) in domains.iter().enumerate() {
         owns.push(own_from(
             alloc,
             DomainNo::new(number as u8),
+            mail,
             domain,
             parts.take_first(),
         )?)?;
     }
     Ok(owns)
+}
+
+// Whether the image declares a mailbox.
+fn has_mail(raw: &Raw) -> bool
+    ensures value { result ≡ spec.has_mail (raw_model raw.now) }
+{
+    !raw.mail.is_empty()
 }
 
 /// What is each domain's own, of an image that breaks no rule but that of pads,
@@ -149,5 +168,5 @@ pub fn owns_of(alloc: Global, raw: &Raw, mut parts: DomainParts) -> Result<Vec<O
     requires parts { ArePartsOf parts (raw_model raw.now).domains }
     ensures value { Makes (λ v. map own_model v.items) result (spec.owns_of (raw_model raw.now)) }
 {
-    owns_in(alloc, raw.domains.as_slice(), &mut parts)
+    owns_in(alloc, raw.domains.as_slice(), &mut parts, has_mail(raw))
 }

@@ -7,8 +7,9 @@ mod making;
 use hardware_check::Hardware;
 pub use making::public_of;
 use sched_table::{HartSchedule, Schedule};
+use tp_base::DomainNo;
 
-/// What all domains may know: the hardware, and the schedule.
+/// What all domains may know: the hardware, the schedule, and the mailboxes.
 #[derive(Drop)]
 pub struct Public {
     /// Of the image's format, 1 or 2.
@@ -19,5 +20,7 @@ pub struct Public {
     pub harts: Vec<HartSchedule>,
     /// How many domains there are.
     pub domains: u32,
+    /// The mailboxes by their numbers, at most 64: from which domain, and to which.
+    pub mail: Vec<(DomainNo, DomainNo)>,
     pub ghost each_hart: { harts.items ≡ hart_schedules schedule },
 }

@@ -9,6 +9,7 @@ ghost use Rattle.image_check.specs.Outcomes.{IsFirst};
 ghost use Rattle.image_check.specs.Checking.{rules_after_pads, broken_of};
 ghost use Rattle.image_check.specs.Checking.{broken_before_pads, broken_but_pads};
 ghost use Rattle.schedule_check.specs.Schedule.{entry_of};
+ghost use Rattle.schedule_check.specs.Mail.{box_of};
 ghost use Rattle.image_check.specs.Image.{image_from, own_of};
 ghost use Rattle.image_check.specs.Laws.{NamesDomains};
 ghost use Rattle.hardware_check.specs.Hardware.{hardware_of};
@@ -26,9 +27,10 @@ use hardware_check::k22;
 use image_record::Raw;
 use pad_bound::Shape;
 use sched_table::Entry;
-use schedule_check::k19;
+use schedule_check::{k19, k20};
 use std::alloc::Global;
 use std::marker::Model;
+use tp_base::DomainNo;
 
 /// An image that breaks no rule but that of pads, if any. It stands for the
 /// record of its text.
@@ -97,27 +99,32 @@ impl Unpadded {
     }
 }
 
-/// The entries of the schedule, where none of the rules after that of pads is
-/// broken.
+/// What the rules after that of pads let through: the entries of the schedule, and the
+/// boxes, each from a domain to another.
+type Later = (Vec<Entry>, Vec<(DomainNo, DomainNo)>);
+
+/// The entries and the boxes, where none of the rules after that of pads is broken.
 ///
 /// # Errors
 ///
 /// `Broken` with the first of those rules that is broken; `Memory` where memory
 /// runs out.
 #[tactic(auto, unfolding(crate::specs::Checking::rules_after_pads))]
-fn entries_of(alloc: Global, raw: &Raw) -> Result<Vec<Entry>, CheckRefusal>
+fn later_of(alloc: Global, raw: &Raw) -> Result<Later, CheckRefusal>
     requires before { broken_before_pads (raw_model raw.now) ≡ [] }
     ensures refused { IfErr result (IsFirst (broken_of rules_after_pads (raw_model raw.now) [])) }
     ensures accepted { OnOk result (broken_of rules_after_pads (raw_model raw.now) [] ≡ []) }
-    ensures entries { IfOk result (λ v. v.items ≡ map entry_of (raw_model raw.now).schedule) }
+    ensures entries { IfOk result (λ later. later.0.items ≡ map entry_of (raw_model raw.now).schedule) }
+    ensures mail { IfOk result (λ later. later.1.items ≡ map box_of (raw_model raw.now).mail) }
 {
     k18(raw)?;
     let entries = k19(alloc, raw)?;
+    let mail = k20(alloc, raw)?;
     k22(raw)?;
-    Ok(entries)
+    Ok((entries, mail))
 }
 
-/// The image of these parts and entries.
+/// The image of these parts, entries and boxes.
 ///
 /// # Errors
 ///
@@ -127,15 +134,17 @@ fn image_of(
     raw: Raw,
     parts: Parts,
     entries: &[Entry],
+    mail: Vec<(DomainNo, DomainNo)>,
 ) -> Result<Unpadded, CheckRefusal>
     requires accepted { broken_but_pads (raw_model raw) ≡ [] }
     requires hardware { hardware_model parts.hardware ≡ hardware_of (raw_model raw) }
     requires domains { ArePartsOf parts.domains (raw_model raw).domains }
     requires entries { entries.now ≡ map entry_of (raw_model raw).schedule }
+    requires mail { mail.items ≡ map box_of (raw_model raw).mail }
     ensures value { Makes (λ u. u) result (raw_model raw) }
 {
     let owns = owns_of(alloc, &raw, parts.domains)?;
-    let public = public_of(alloc, &raw, parts.hardware, entries)?;
+    let public = public_of(alloc, &raw, parts.hardware, entries, mail)?;
     Ok(Unpadded { raw, public, owns })
 }
 
@@ -153,8 +162,8 @@ pub(crate) fn image_with(alloc: Global, raw: Raw, parts: Parts) -> Result<Unpadd
     ensures accepted { IfOk result (λ u. broken_of rules_after_pads u [] ≡ []) }
     ensures same { IfOk result (λ u. u ≡ raw_model raw) }
 {
-    let entries = entries_of(alloc, &raw)?;
-    image_of(alloc, raw, parts, entries.as_slice())
+    let (entries, mail) = later_of(alloc, &raw)?;
+    image_of(alloc, raw, parts, entries.as_slice(), mail)
 }
 
 /// The image, where the list of the rules that it breaks is empty but for that

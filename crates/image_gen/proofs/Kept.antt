@@ -35,6 +35,7 @@ use Rattle.image_check.specs.Pads.{shape_for, bound_out_of, k17, k17_case, k17_e
 use Rattle.pad_bound.specs.Bound.{most_written, bound_of, worst_instruction, worst_operation, worst_leave, worst_prefetch, worst_flush, worst_enter}
 use Rattle.sched_table.specs.Schedule.{harts_in}
 use Rattle.schedule_check.specs.Harts.{k19, hart_case, k19_hart}
+use Rattle.schedule_check.specs.Mail.{k20, k20_mail}
 use Rattle.image_check.specs.Laws.{Keeps}
 use Rattle.image_check.proofs.Kept.{acceptance_law}
 use Rattle.seed_words.specs.Words.{after, word}
@@ -191,6 +192,10 @@ extensions_kept : (p : List ℕ) (ds : List RawDomain) (es : List RawEntry) → 
 unfolding k22 image_with
 extensions_kept p ds es = refl
 
+mail_kept : (p : List ℕ) (ds : List RawDomain) (es : List RawEntry) → k20 (image_with p ds es) ≡ None
+unfolding k20 k20_mail image_with
+mail_kept p ds es = refl
+
 -- where a domain leaves that may make every call
 bound_is : (p : List ℕ) (ds : List RawDomain) (es : List RawEntry)
     → bound_of (shape_for (hardware_of (image_with p ds es)) every_call) ≡ 6150
@@ -202,7 +207,7 @@ bound_is p ds es = refl
 
 module _ (h : ℕ → List ℕ) (m : ℕ → List RawMoment) where
   every_one : (first : ℕ) (ks : List ℕ) (n : ℕ)
-      → (own_at (owns_from first (map (λ d. domain_with d (h d) (m d)) ks)) n).calls ≡ every_call
+      → (own_at (owns_from first false (map (λ d. domain_with d (h d) (m d)) ks)) n).calls ≡ every_call
   unfolding own_from domain_with calls_in
   every_one first [] n = refl
   every_one first (k ∷ ks) zero = refl
@@ -337,6 +342,7 @@ keeps seed =
         };
         calls = no_case k18_domain [] ds (passes_map k18_domain _ (λ d e. none_listed d (h d) (m d) e) ns);
         harts = harts_kept p h m w seed;
+        mail = mail_kept p ds es;
         extensions = extensions_kept p ds es;
       };
       pads = pads_kept p h m w (count seed);

@@ -161,7 +161,7 @@ module _ (p : List ℕ) (h : ℕ → List ℕ) (w : ℕ → ℕ → ℕ) (v : �
 
   later_unbroken : Unbroken members (drop 25 key_rows)
   unfolding Unbroken key_rows broken_in whole_in whole_item
-  later_unbroken = (refl, (refl, (refl, (refl, (in_slots _ (λ k. refl), (refl, (refl, tt)))))))
+  later_unbroken = (refl, (refl, (refl, (refl, (in_slots _ (λ k. refl), (refl, (refl, (refl, (refl, (refl, tt))))))))))
 
   none_later : later_rows members ≡ None
   none_later = none_broken members (drop 25 key_rows) later_unbroken

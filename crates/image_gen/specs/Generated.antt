@@ -73,7 +73,8 @@ costs = record {
   flush = pos 20;
 }
 
--- of the first version, with eight colours; no write-back into the second level, no history, no products, no target buffer
+-- of the first version, with eight colours; no write-back into the second level, no history, no products, no target buffer,
+-- no mailboxes
 unfoldable pub image_with : List ℕ → List RawDomain → List RawEntry → Raw
 image_with policy domains schedule = record {
   version = 1;
@@ -92,6 +93,7 @@ image_with policy domains schedule = record {
   targets = None;
   domains = domains;
   schedule = schedule;
+  mail = [];
 }
 
 -- ---- by the words

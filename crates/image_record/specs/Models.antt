@@ -1,7 +1,7 @@
 -- How contracts see the record of the code.
 use Rattle.std.specs.Prelude.{map, option_map}
 use Rattle.image_record.specs.Record as spec
-use Rattle.image_record.specs.Parts.{cache_model, costs_model, muldiv_model, domain_model, entry_model}
+use Rattle.image_record.specs.Parts.{cache_model, costs_model, muldiv_model, domain_model, entry_model, mailbox_model}
 use Rattle.image_record.specs.declared.raw.Raw.{Raw}
 
 abbrev pub raw_model : Raw → spec.Raw
@@ -22,4 +22,5 @@ raw_model r = record {
   targets = r.targets;
   domains = map domain_model r.domains.items;
   schedule = map entry_model r.schedule.items;
+  mail = map mailbox_model r.mail.items;
 }

@@ -8,6 +8,7 @@ use Rattle.image_record.specs.declared.raw.RawSegment.{RawSegment}
 use Rattle.image_record.specs.declared.raw.RawMoment.{RawMoment}
 use Rattle.image_record.specs.declared.raw.RawDomain.{RawDomain}
 use Rattle.image_record.specs.declared.raw.RawEntry.{RawEntry}
+use Rattle.image_record.specs.declared.raw.RawMailbox.{RawMailbox}
 
 abbrev pub cache_model : RawCache → spec.RawCache
 cache_model c = record { sets = c.sets; ways = c.ways; policy = string_bytes c.policy }
@@ -49,3 +50,6 @@ domain_model d = record {
 
 abbrev pub entry_model : RawEntry → spec.RawEntry
 entry_model e = record { domain = e.domain; length = e.length; pad = e.pad; hart = e.hart }
+
+abbrev pub mailbox_model : RawMailbox → spec.RawMailbox
+mailbox_model b = record { from = b.from; to = b.to }

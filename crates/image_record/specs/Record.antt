@@ -51,6 +51,11 @@ pub record RawEntry : Type 0 where
   pub pad : ℤ
   pub hart : ℤ  -- on which it runs
 
+-- a box of words, one way from a domain to another
+pub record RawMailbox : Type 0 where
+  pub from : ℤ
+  pub to : ℤ
+
 pub record Raw : Type 0 where
   pub version : ℕ  -- of the format, 1 or 2
   pub frames : ℤ
@@ -68,6 +73,7 @@ pub record Raw : Type 0 where
   pub targets : Option ℤ  -- places of the target buffer
   pub domains : List RawDomain
   pub schedule : List RawEntry
+  pub mail : List RawMailbox
 
 -- ---- what the key table gives
 

@@ -8,5 +8,7 @@ mod raw;
 mod refusal;
 
 pub use numbers::{names, natural_of};
-pub use raw::{Raw, RawCache, RawCosts, RawDomain, RawEntry, RawMoment, RawMuldiv, RawSegment};
+pub use raw::{
+    Raw, RawCache, RawCosts, RawDomain, RawEntry, RawMailbox, RawMoment, RawMuldiv, RawSegment,
+};
 pub use refusal::{ReadRefusal, Refusal};

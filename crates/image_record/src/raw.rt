@@ -104,6 +104,15 @@ pub struct RawEntry {
     pub hart: i64,
 }
 
+/// A box of words, one way from a domain to another.
+#[derive(Clone, Copy, Debug, PartialEq, Eq)]
+pub struct RawMailbox {
+    /// The number of the domain that puts words in, from 0.
+    pub from: i64,
+    /// The number of the domain that takes them, from 0.
+    pub to: i64,
+}
+
 /// The record of an image that breaks no row of the key table: its numbers and
 /// lists are in the ranges of their keys.
 #[derive(Drop)]
@@ -135,5 +144,7 @@ pub struct Raw {
     pub targets: Option<i64>,
     pub domains: Vec<RawDomain>,
     pub schedule: Vec<RawEntry>,
+    /// None where the image says none.
+    pub mail: Vec<RawMailbox>,
     pub ghost in_ranges: { AreInKeyRanges (map domain_model domains.items) },
 }

@@ -2,7 +2,7 @@
 use Rattle.std.proofs.Common.{◌≡◌, ℕ, suc, ◌+◌, List, [], ◌∷◌, length, map, get_or, refl, sym, ap, ap₂, ◌∙◌, arith}
 use Rattle.image_record.specs.Record.{Raw, RawDomain, raw_domain, no_raw_domain}
 use Rattle.hardware_check.specs.Hardware.{hardware_of}
-use Rattle.image_check.specs.Own.{own_from}
+use Rattle.image_check.specs.Own.{own_from, has_mail}
 use Rattle.image_check.specs.Public.{public_of}
 use Rattle.image_check.proofs.Owns.{owns_at}
 use Rattle.image_redact.specs.Redacted.{emptied, redacted}
@@ -23,11 +23,12 @@ same_public i d =
     ap (λ n. record (public_of i) { domains = n }) (same_length i.version d (raw_domain i.domains d).name 0 i.domains)
 
 pub alike_law : AlikeLaw
+unfolding redacted
 alike_law i d l =
     let many = long i d in
     record {
       all = sym (same_public i d);
-      own = owns_at i d l ∙ ap (own_from d) (sym (kept_domain i d)) ∙ sym (owns_at (redacted i d) d (omega (arith, many, l)));
+      own = owns_at i d l ∙ ap (own_from d (has_mail i)) (sym (kept_domain i d)) ∙ sym (owns_at (redacted i d) d (omega (arith, many, l)));
     }
 
 -- ---- once more

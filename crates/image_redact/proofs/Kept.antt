@@ -19,9 +19,10 @@ use Rattle.domain_check.specs.Calls.{k18, k18_domain, k18_call}
 use Rattle.schedule_check.specs.Interrupts.{k14, k14_line, k14_domain, lined_so, named_before, same_line, k15, k15_domain}
 use Rattle.schedule_check.specs.Schedule.{k16}
 use Rattle.schedule_check.specs.Harts.{k19}
+use Rattle.schedule_check.specs.Mail.{k20}
 use Rattle.hex.specs.Hex.{decode_pairs}
 use Rattle.image_check.specs.Pads.{k17, k17_entry, bound_out_of}
-use Rattle.image_check.specs.Own.{owns_of}
+use Rattle.image_check.specs.Own.{has_mail, owns_of}
 use Rattle.image_check.specs.Laws.{Keeps}
 use Rattle.image_check.proofs.Kept.{acceptance_law, domains_within}
 use Rattle.image_redact.specs.Redacted.{name_beside, emptied, redacted}
@@ -312,10 +313,14 @@ module _ (i : Raw) (d : ℕ) (first : FirstSaysNoCalls i) (k : Keeps i) where
   unfolding k16 redacted
   schedule_keeps = rw long k.others.before.schedule
 
+  mail_keeps : k20 (redacted i d) ≡ None
+  unfolding k20 redacted
+  mail_keeps = rw long k.others.mail
+
   less : (x : ℤ) → bound_out_of (redacted i d) x ≤ bound_out_of i x
   unfolding bound_out_of owns_of redacted hardware_of
   less x =
-      each_least i.version d name 0 i.domains
+      each_least i.version d name (has_mail i) 0 i.domains
       (placed_each (λ m o. i.version ≡ 1 → o.calls ≡ None) no_raw_domain 0 i.domains (λ n l is. first is n))
       (natural_of x) (hardware_of i)
 
@@ -364,6 +369,7 @@ module _ (i : Raw) (d : ℕ) (first : FirstSaysNoCalls i) (k : Keeps i) where
               (by_itself i.version d name k18_domain (calls_case i.version d name) (no_calls_case i.version d name))
               k.others.calls;
           harts = k.others.harts;
+          mail = mail_keeps;
           extensions = k.others.extensions;
         };
         pads = pads_keep;

@@ -1,5 +1,6 @@
 -- What is seen of the kept domain is the same.
-use Rattle.std.proofs.Common.{◌≡◌, ℕ, ◌<◌, [], length, sym, ap, ap₂, subst, ◌∙◌, arith}
+use Rattle.std.specs.List.{All}
+use Rattle.std.proofs.Common.{◌≡◌, ◌≢◌, ℕ, ◌<◌, [], length, sym, ap, ap₂, subst, ◌∙◌, arith}
 use Rattle.sched_table.specs.Schedule.{hart_for}
 use Rattle.image_record.specs.Record.{Raw, InKeyRanges}
 use Rattle.image_check.specs.Public.{Public}
@@ -10,7 +11,7 @@ use Rattle.image_check.specs.Laws.{Runnable}
 use Rattle.image_check.proofs.Running.{runnable_law}
 use Rattle.image_check.proofs.Owns.{owns_length}
 use Rattle.world_view.specs.View.{view_alone}
-use Rattle.world_view.specs.Harts.{public_on, hart_of_domain, slots_of, harts, view_alone_on}
+use Rattle.world_view.specs.Harts.{public_on, hart_of_domain, slots_of, harts, view_mailed_on, view_alone_on}
 use Rattle.world_view.specs.HartLaws.{IsBetween}
 use Rattle.world_view.specs.Relations.{IsDomain}
 use Rattle.world_view.proofs.harts.Isolation.{hart_isolation}
@@ -21,7 +22,7 @@ use Rattle.image_redact.proofs.Ranges.{ranges_law}
 use Rattle.image_redact.proofs.Kept.{accepted_law}
 
 pub seen_alone : SeenAloneLaw
-unfolding view_alone_on
+unfolding view_mailed_on
 seen_alone i d n l =
     let same = alike_law i d l in
     ap₂ (λ (p : Public) (o : Own). view_alone (public_on p (hart_for p.schedule d)) o d n) same.all same.own
@@ -46,15 +47,16 @@ module _ (i : Raw) (d : ℕ) (ranges : InKeyRanges i) (first : FirstSaysNoCalls 
   same_hart = ap (λ (p : Public). hart_for p.schedule d) (alike_law i d l).all
 
 pub seen_law : SeenLaw
-seen_law i d one two ranges first accepted l of_one of_two slots between between_too =
+seen_law i d one two ranges first accepted l none of_one of_two slots between between_too =
     let x = image_from i in
     let y = image_from (redacted i d) in
     let s = harts x one in
     let t = harts y two in
     let hart = same_hart i d ranges first accepted l in
     let moved = subst (λ (h : ℕ). IsBetween y h t) hart between_too in
-    let whole = hart_isolation x d one (runs i d ranges first accepted l) (here i d ranges first accepted l) of_one between in
-    let whole_too = hart_isolation y d two (runs_too i d ranges first accepted l) (there i d ranges first accepted l) of_two moved in
+    let whole = hart_isolation x d one (runs i d ranges first accepted l) (here i d ranges first accepted l) none of_one between in
+    let none_too = subst (λ (p : Public). All (λ box. box.1 ≢ d) p.mail) (alike_law i d l).all none in
+    let whole_too = hart_isolation y d two (runs_too i d ranges first accepted l) (there i d ranges first accepted l) none_too of_two moved in
     whole ∙ ap (λ (n : ℕ). view_alone_on x d n) slots ∙ seen_alone i d (slots_of (hart_of_domain x d) t) l
     ∙ ap (λ (h : ℕ). view_alone_on y d (slots_of h t)) hart
     ∙ sym whole_too

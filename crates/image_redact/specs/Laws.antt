@@ -2,6 +2,7 @@
 use Rattle.std.specs.Prelude.{◌≡◌, ◌≢◌, ℕ, ◌<◌, List, [], length, map, None}
 use Rattle.image_record.specs.Record.{Raw, raw_domain, InKeyRanges}
 use Rattle.world_view.specs.Harts.{hart_of_domain, slots_of, harts, view_on, view_alone_on}
+use Rattle.world_view.specs.Relations.{HasNoMail}
 use Rattle.world_view.specs.HartLaws.{AreHartsOf, IsBetween}
 use Rattle.image_check.specs.Checking.{broken}
 use Rattle.image_check.specs.Image.{image_from, own_of}
@@ -32,11 +33,11 @@ abbrev pub SeenAloneLaw : Type 0
 SeenAloneLaw = (i : Raw) (d n : ℕ) → d < length i.domains
     → view_alone_on (image_from i) d n ≡ view_alone_on (image_from (redacted i d)) d n
 
--- and among the others, in every two orders of the harts' events after which its hart has had as many slots, and has not
+-- and where no box leads to it, among the others, in every two orders of the harts' events after which its hart has had as many slots, and has not
 -- begun its next one
 abbrev pub SeenLaw : Type 0
 SeenLaw = (i : Raw) (d : ℕ) (one two : List ℕ) → InKeyRanges i → FirstSaysNoCalls i → broken i ≡ []
-    → d < length i.domains →
+    → d < length i.domains → HasNoMail (image_from i) d →
     let x = image_from i in
     let y = image_from (redacted i d) in
     let h = hart_of_domain x d in

@@ -19,6 +19,7 @@ mod extensions;
 mod harts;
 mod level2;
 mod limits;
+mod mail;
 mod orders;
 
 // Red's code is three bytes, one fewer than an instruction has; blue's is `jal x0, 0`.

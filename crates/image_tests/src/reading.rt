@@ -11,6 +11,7 @@ use std::test::Fail;
 
 mod harts;
 mod level2;
+mod mail;
 mod refusal;
 mod unknown;
 mod versions;

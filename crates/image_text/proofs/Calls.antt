@@ -69,7 +69,7 @@ none_here (Data.datetime t) h = refl
 all_known_here : (t : Members) → all_known 1 key_rows t ≡ true
     → all_items (known_domain 1 key_rows) (items_at (codes "domain") t) ≡ true
 unfolding all_known
-all_known_here t h = (and_parts _ _ (and_parts _ _ h).0).1
+all_known_here t h = (and_parts _ _ (and_parts _ _ (and_parts _ _ h).0).0).1
 
 known_first : (t : Members) → broken_key t ≡ None → version_of t ≡ 1
     → all_items (known_domain 1 key_rows) (items_at (codes "domain") t) ≡ true

@@ -5,10 +5,10 @@ use Rattle.std.proofs.lemmas.Result.{IfOk-at_ok}
 use Rattle.toml.specs.Data.{Data, Items, no_items, item, Members, get_member, as_integer, as_array, as_table}
 use Rattle.image_text.specs.Rows.{Row, Field, Kind, One, Array, SomeTables, Pairs, Fields, needs, may_have, integer, text, of_own_row, version_from, version_of, fits_one, all_items, count_items, some_tables, is_pair, is_pair_value, in_array, has_one, has_field, has_all, in_fields, cache_fields, level2_fields, cost_fields, muldiv_fields, fits, fits_if, whole_in, whole_item, whole_level2, whole_segments, items_or_none, items_at, broken_in, Broken, first_broken, key_rows}
 use Rattle.image_text.specs.Unknown.{broken_key}
-use Rattle.image_text.specs.Record.{integer_of, integer_at, truth_of, truth_at, ranged, map_items, table_of, cache_of, back_at, costs_of, muldiv_of, muldiv_at, integer_if, targets_at, table_if, items_if, integers_in, segment_of, segment_in, moment_in, domain_of, domain_in, entry_of, entry_in, record_of, read_whole, read_table, image_of}
-use Rattle.image_text.specs.Numbers.{IsInteger, IntegerAt, IntegerOrZeroAt, TruthOrFalseAt, IntegerIfAt, TableAt, TableIfAt, Each, ArrayAt, ArrayIfAt, IsTableOf, VersionAt, ArrayOrNoneAt, CacheNumbers, Level2Numbers, CostNumbers, MuldivNumbers, SegmentNumbers, IsMoment, DomainNumbers, EntryNumbers, Numbers, NumbersLaw}
+use Rattle.image_text.specs.Record.{integer_of, integer_at, truth_of, truth_at, ranged, map_items, table_of, cache_of, back_at, costs_of, muldiv_of, muldiv_at, integer_if, targets_at, table_if, items_if, integers_in, segment_of, segment_in, moment_in, domain_of, domain_in, entry_of, entry_in, mailbox_of, mailbox_in, record_of, read_whole, read_table, image_of}
+use Rattle.image_text.specs.Numbers.{IsInteger, IntegerAt, IntegerOrZeroAt, TruthOrFalseAt, IntegerIfAt, TableAt, TableIfAt, Each, ArrayAt, ArrayIfAt, IsTableOf, VersionAt, ArrayOrNoneAt, CacheNumbers, Level2Numbers, CostNumbers, MuldivNumbers, SegmentNumbers, IsMoment, DomainNumbers, EntryNumbers, MailboxNumbers, Numbers, NumbersLaw}
 use Rattle.image_text.specs.declared.kinds.Simple.TheVariants.{Integer, Within, Truth, Table}
-use Rattle.image_text.specs.declared.kinds.Place.TheVariants.{Top as TopPlace, Level2 as Level2Place, Domain as DomainPlace, Segment as SegmentPlace, Entry as EntryPlace}
+use Rattle.image_text.specs.declared.kinds.Place.TheVariants.{Top as TopPlace, Level2 as Level2Place, Domain as DomainPlace, Segment as SegmentPlace, Entry as EntryPlace, Mail as MailPlace}
 use Rattle.image_text.proofs.WholeRows.{all_pass, holds_if, whole_from, first_whole, rows_whole, later_whole_first, versions}
 use Rattle.image_text.proofs.Calls.{calls_row, calls_whole}
 
@@ -551,6 +551,54 @@ entries_each ds tables w =
     let both = and_of T WholeEntry ds (all_of (fits_one Table) ds tables) (whole_entries ds w) in
     each_of (λ d. T d × WholeEntry d) entry_in (IsTableOf EntryNumbers) entry_here ds both
 
+-- ---- mailboxes
+
+abbrev from_row : Row
+from_row = needs 33 MailPlace (codes "from") (One Integer)
+
+abbrev to_row : Row
+to_row = needs 34 MailPlace (codes "to") (One Integer)
+
+-- the rows of an item of the array of boxes are whole
+record WholeMailbox (d : Data) : Type 0 where
+  from : whole_item from_row d ≡ true
+  to : whole_item to_row d ≡ true
+
+mailbox_numbers : (u : Members) → WholeMailbox (Data.table u) → MailboxNumbers u (mailbox_of u)
+unfolding whole_item whole_in mailbox_of
+mailbox_numbers u w = record {
+  from = integer_in (get_member (codes "from") u) w.from;
+  to = integer_in (get_member (codes "to") u) w.to;
+}
+
+mailbox_here : (d : Data) → (fits_one Table d ≡ true) × WholeMailbox d
+    → IsTableOf MailboxNumbers d (mailbox_in d)
+mailbox_here (Data.table u) w = mailbox_numbers u w.1
+mailbox_here (Data.array ds) w = no w.0
+mailbox_here (Data.string s) w = no w.0
+mailbox_here (Data.integer z) w = no w.0
+mailbox_here (Data.float x) w = no w.0
+mailbox_here (Data.boolean b) w = no w.0
+mailbox_here (Data.datetime t) w = no w.0
+
+record WholeMail (ds : Items) : Type 0 where
+  from : all_items (whole_item from_row) ds ≡ true
+  to : all_items (whole_item to_row) ds ≡ true
+
+whole_mail : (ds : Items) → WholeMail ds → AllOf WholeMailbox ds
+whole_mail no_items w = tt
+whole_mail (item d ds) w =
+    let from = and_parts (whole_item from_row d) (all_items (whole_item from_row) ds) w.from in
+    let to = and_parts (whole_item to_row d) (all_items (whole_item to_row) ds) w.to in
+    (record { from = from.0; to = to.0 }, whole_mail ds (record { from = from.1; to = to.1 }))
+
+mail_each : (ds : Items) → all_items (fits_one Table) ds ≡ true → WholeMail ds
+    → Each (IsTableOf MailboxNumbers) ds (map_items mailbox_in ds)
+mail_each ds tables w =
+    let T : Data → Type 0 = λ d. fits_one Table d ≡ true in
+    let both = and_of T WholeMailbox ds (all_of (fits_one Table) ds tables) (whole_mail ds w) in
+    each_of (λ d. T d × WholeMailbox d) mailbox_in (IsTableOf MailboxNumbers) mailbox_here ds both
+
 -- ---- the rows of the table
 
 module _ (t : Members) (whole : first_broken 1 (take 25 key_rows) t ≡ None)
@@ -668,6 +716,11 @@ module _ (t : Members) (whole : first_broken 1 (take 25 key_rows) t ≡ None)
   unfolding broken_in
   of_entries n key needed h = all_pass _ 0 (items_at (codes "schedule") t) h
 
+  of_mail : (n : ℕ) (key : List ℕ) → broken_in 1 (needs n MailPlace key (One Integer)) t ≡ None
+      → all_items (whole_item (needs n MailPlace key (One Integer))) (items_at (codes "mail") t) ≡ true
+  unfolding broken_in
+  of_mail n key h = all_pass _ 0 (items_at (codes "mail") t) h
+
   whole_domains : WholeItems (items_at (codes "domain") t)
   unfolding key_rows
   whole_domains = record {
@@ -704,6 +757,25 @@ module _ (t : Members) (whole : first_broken 1 (take 25 key_rows) t ≡ None)
       (λ ds same h. entries_each ds h (subst WholeEntries same whole_schedule))
       (top_array (codes "schedule") 22 (row 21 (needs 22 TopPlace (codes "schedule") (Array Table)) _ refl))
 
+  mail_fits : broken_in 1 (may_have 32 TopPlace (codes "mail") (Array Table)) t ≡ None
+      → fits_if false (Array Table) (get_member (codes "mail") t) ≡ true
+  unfolding broken_in whole_in
+  mail_fits h = holds_if _ h
+
+  all_whole_mail : WholeMail (items_at (codes "mail") t)
+  unfolding key_rows
+  all_whole_mail = record {
+    from = of_mail 33 (codes "from") (later_row 6 from_row _ refl);
+    to = of_mail 34 (codes "to") (later_row 7 to_row _ refl);
+  }
+
+  mail : ArrayIfAt (codes "mail") t (IsTableOf MailboxNumbers) (map_items mailbox_in (items_at (codes "mail") t))
+  unfolding key_rows fits
+  mail = array_if (codes "mail") t (Array Table) (all_items (fits_one Table)) mailbox_in (IsTableOf MailboxNumbers) (λ d h. h)
+      (λ ds same h. mail_each ds h (subst WholeMail same all_whole_mail))
+      (get_member (codes "mail") t) refl
+      (mail_fits (later_row 5 (may_have 32 TopPlace (codes "mail") (Array Table)) _ refl))
+
   numbers : Numbers t (record_of t)
   unfolding key_rows record_of
   numbers = record {
@@ -718,10 +790,11 @@ module _ (t : Members) (whole : first_broken 1 (take 25 key_rows) t ≡ None)
     predictor = number (codes "predictor") 8 (row 7 (needs 8 TopPlace (codes "predictor") (One Integer)) _ refl);
     history = history (later_row 3 (may_have 30 TopPlace (codes "history") (One Integer)) _ refl);
     costs = costs (row 8 (needs 9 TopPlace (codes "costs") (Fields cost_fields)) _ refl);
-    muldiv = muldiv (later_row 5 (may_have 37 TopPlace (codes "muldiv") (Fields muldiv_fields)) _ refl);
-    targets = targets (later_row 6 (may_have 38 TopPlace (codes "targets") (One Integer)) _ refl);
+    muldiv = muldiv (later_row 8 (may_have 37 TopPlace (codes "muldiv") (Fields muldiv_fields)) _ refl);
+    targets = targets (later_row 9 (may_have 38 TopPlace (codes "targets") (One Integer)) _ refl);
     domains = domains;
     schedule = schedule;
+    mail = mail;
   }
 
 -- ---- the image that bytes are

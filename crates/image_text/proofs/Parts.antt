@@ -4,10 +4,10 @@ use Rattle.std.specs.Prelude.{Bool}
 use Rattle.toml.specs.declared.value.Value.{Value}
 use Rattle.toml.specs.Data.{Members}
 use Rattle.toml.specs.View.{view, items_view}
-use Rattle.image_record.specs.Record.{RawCache, RawCosts, RawMuldiv, RawSegment, RawMoment, RawDomain, RawEntry}
+use Rattle.image_record.specs.Record.{RawCache, RawCosts, RawMuldiv, RawSegment, RawMoment, RawDomain, RawEntry, RawMailbox}
 use Rattle.image_text.specs.Rows.{items_at, version_of}
 use Rattle.image_text.specs.Record as spec
-use Rattle.image_text.specs.Record.{integer_of, first_item, second_item, integer_at, natural_at, text_at, integers_at, integers_if_at, texts_at, map_items, segment_in, moment_in, domain_in, entry_in, cache_at, back_at, costs_at, muldiv_at, targets_at}
+use Rattle.image_text.specs.Record.{integer_of, first_item, second_item, integer_at, natural_at, text_at, integers_at, integers_if_at, texts_at, map_items, segment_in, moment_in, domain_in, entry_in, mailbox_in, cache_at, back_at, costs_at, muldiv_at, targets_at}
 
 pub domain_of : (t : Members) (name : List ℕ) (colours : List ℤ) (entry : ℕ) (segments : List RawSegment)
     (caps : List (List ℕ)) (lines : List ℤ) (moments : List RawMoment) (calls : Option (List ℤ))
@@ -30,7 +30,7 @@ domain_of t name colours entry segments caps lines moments calls e1 e2 e3 e4 e5 
 
 pub record_of : (t : Members) (version : ℕ) (frames shared line : ℤ) (l1i l1d l2 : RawCache) (back : Bool)
     (tlb : RawCache) (predictor history : ℤ) (costs : RawCosts) (muldiv : Option RawMuldiv)
-    (targets : Option ℤ) (domains : List RawDomain) (schedule : List RawEntry)
+    (targets : Option ℤ) (domains : List RawDomain) (schedule : List RawEntry) (mail : List RawMailbox)
     → version ≡ version_of t → frames ≡ integer_at (codes "frames") t → shared ≡ integer_at (codes "shared") t
     → line ≡ integer_at (codes "line") t
     → l1i ≡ cache_at (codes "l1i") t → l1d ≡ cache_at (codes "l1d") t → l2 ≡ cache_at (codes "l2") t
@@ -38,6 +38,7 @@ pub record_of : (t : Members) (version : ℕ) (frames shared line : ℤ) (l1i l1
     → predictor ≡ integer_at (codes "predictor") t → history ≡ integer_at (codes "history") t
     → costs ≡ costs_at t → muldiv ≡ muldiv_at t → targets ≡ targets_at t
     → domains ≡ map_items domain_in (items_at (codes "domain") t) → schedule ≡ map_items entry_in (items_at (codes "schedule") t)
+    → mail ≡ map_items mailbox_in (items_at (codes "mail") t)
     → record {
       version = version;
       frames = frames;
@@ -55,11 +56,12 @@ pub record_of : (t : Members) (version : ℕ) (frames shared line : ℤ) (l1i l1
       targets = targets;
       domains = domains;
       schedule = schedule;
+      mail = mail;
     } ≡ spec.record_of t
 unfolding spec.record_of
 record_of t version frames shared line l1i l1d l2 back tlb predictor history costs muldiv targets domains
-    schedule e1 e2 e3 e4 e5 e6 e7 e8 e9 e10 e11 e12 e13 e14 e15 e16 =
-    rw (e1, e2, e3, e4, e5, e6, e7, e8, e9, e10, e11, e12, e13, e14, e15, e16) refl
+    schedule mail e1 e2 e3 e4 e5 e6 e7 e8 e9 e10 e11 e12 e13 e14 e15 e16 e17 =
+    rw (e1, e2, e3, e4, e5, e6, e7, e8, e9, e10, e11, e12, e13, e14, e15, e16, e17) refl
 
 -- ---- the first item of a pair
 

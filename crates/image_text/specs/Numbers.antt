@@ -2,7 +2,7 @@
 -- in the bytes, the very value of the record.
 use Rattle.std.specs.Prelude.{◌≡◌, ℕ, Bool, false, ℤ, pos, List, [], ◌∷◌, codes, Option, Some, None, Ok, ◌⊎◌}
 use Rattle.toml.specs.Data.{Data, Items, no_items, item, Members, get_member}
-use Rattle.image_record.specs.Record.{RawCache, RawCosts, RawMuldiv, RawSegment, RawMoment, RawDomain, RawEntry, Raw}
+use Rattle.image_record.specs.Record.{RawCache, RawCosts, RawMuldiv, RawSegment, RawMoment, RawDomain, RawEntry, RawMailbox, Raw}
 use Rattle.image_text.specs.Record.{document, image_of}
 
 -- ---- what stands at a key
@@ -113,6 +113,10 @@ pub record EntryNumbers (t : Members) (e : RawEntry) : Type 0 where
   pub pad : IntegerAt (codes "pad") t e.pad
   pub hart : IntegerOrZeroAt (codes "hart") t e.hart
 
+pub record MailboxNumbers (t : Members) (b : RawMailbox) : Type 0 where
+  pub from : IntegerAt (codes "from") t b.from
+  pub to : IntegerAt (codes "to") t b.to
+
 -- ---- the image
 
 pub record Numbers (t : Members) (i : Raw) : Type 0 where
@@ -131,6 +135,7 @@ pub record Numbers (t : Members) (i : Raw) : Type 0 where
   pub targets : IntegerIfAt (codes "targets") t i.targets
   pub domains : ArrayAt (codes "domain") t (IsTableOf DomainNumbers) i.domains
   pub schedule : ArrayAt (codes "schedule") t (IsTableOf EntryNumbers) i.schedule
+  pub mail : ArrayIfAt (codes "mail") t (IsTableOf MailboxNumbers) i.mail
 
 -- of every image that bytes are
 abbrev pub NumbersLaw : Type 0

@@ -4,7 +4,7 @@ use Rattle.std.specs.Prelude.{◌≡◌, ℕ, ◌&&◌, nat_le, Bool, false, ℤ
 use Rattle.std.specs.Str.{is_utf8}
 use Rattle.toml.specs.Data.{Data, Items, no_items, item, Members, no_members, get_member, as_integer, as_array, as_table}
 use Rattle.toml.specs.Parse.{parse_document}
-use Rattle.image_record.specs.Record.{RawCache, RawCosts, RawMuldiv, RawSegment, RawMoment, RawDomain, RawEntry, Raw, raw_domain, InKeyRanges}
+use Rattle.image_record.specs.Record.{RawCache, RawCosts, RawMuldiv, RawSegment, RawMoment, RawDomain, RawEntry, RawMailbox, Raw, raw_domain, InKeyRanges}
 use Rattle.image_record.specs.declared.refusal.Refusal.{Refusal}
 use Rattle.image_text.specs.Rows.{items_or_none, items_at, version_of, Broken}
 use Rattle.image_text.specs.Unknown.{broken_key}
@@ -165,6 +165,12 @@ entry_of t = record {
 abbrev pub entry_in : Data → RawEntry
 entry_in d = entry_of (table_of (Some d))
 
+unfoldable pub mailbox_of : Members → RawMailbox
+mailbox_of t = record { from = integer_at (codes "from") t; to = integer_at (codes "to") t }
+
+abbrev pub mailbox_in : Data → RawMailbox
+mailbox_in d = mailbox_of (table_of (Some d))
+
 unfoldable pub record_of : Members → Raw
 record_of t = record {
   version = version_of t;
@@ -183,6 +189,7 @@ record_of t = record {
   targets = targets_at t;
   domains = map_items domain_in (items_at (codes "domain") t);
   schedule = map_items entry_in (items_at (codes "schedule") t);
+  mail = map_items mailbox_in (items_at (codes "mail") t);
 }
 
 -- ---- the image that bytes are

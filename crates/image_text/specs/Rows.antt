@@ -4,7 +4,7 @@ use Rattle.toml.specs.Data.{Data, Items, no_items, item, Members, get_member, as
 use Rattle.image_text.specs.declared.kinds.Simple.{Simple}
 use Rattle.image_text.specs.declared.kinds.Simple.TheVariants.{Integer, Within, Truth, Text, Table}
 use Rattle.image_text.specs.declared.kinds.Place.{Place}
-use Rattle.image_text.specs.declared.kinds.Place.TheVariants.{Top, Level2, Domain, Segment, Entry}
+use Rattle.image_text.specs.declared.kinds.Place.TheVariants.{Top, Level2, Domain, Segment, Entry, Mail}
 
 -- ---- values
 
@@ -170,6 +170,9 @@ key_rows =
     ∷ may_have_2 29 Domain (codes "calls") (Array Integer)
     ∷ may_have 30 Top (codes "history") (One Integer)
     ∷ may_have 31 Entry (codes "hart") (One Integer)
+    ∷ may_have 32 Top (codes "mail") (Array Table)
+    ∷ needs 33 Mail (codes "from") (One Integer)
+    ∷ needs 34 Mail (codes "to") (One Integer)
     ∷ may_have 37 Top (codes "muldiv") (Fields muldiv_fields)
     ∷ may_have 38 Top (codes "targets") (One Integer)
     ∷ []
@@ -229,18 +232,19 @@ first_failing p n (item d ds) = if p d then first_failing p (n + 1) ds else Some
 abbrev pub first_broken_item : Row → Items → Option ℕ
 first_broken_item row ds = first_failing (passes row.place row) 0 ds
 
--- the least domain or entry in which the row is broken, else 0
+-- the least domain, entry or box in which the row is broken, else 0
 abbrev pub broken_at : Place → Row → Members → Option ℕ
 broken_at Top row t = if whole_in row t then None else Some 0
 broken_at Level2 row t = if whole_level2 row (get_member (codes "l2") t) then None else Some 0
 broken_at Entry row t = first_failing (passes Entry row) 0 (items_at (codes "schedule") t)
+broken_at Mail row t = first_failing (passes Mail row) 0 (items_at (codes "mail") t)
 broken_at place row t = first_failing (passes place row) 0 (items_at (codes "domain") t)
 
 -- a row of a later version says nothing
 unfoldable pub broken_in : ℕ → Row → Members → Option ℕ
 broken_in version row t = if nat_le row.since version then broken_at row.place row t else None
 
--- what is broken: the row, and the domain or entry
+-- what is broken: the row, and the domain, entry or box
 pub record Broken : Type 0 where
   pub row : ℕ
   pub found : ℕ

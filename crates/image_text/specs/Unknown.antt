@@ -3,7 +3,7 @@ use Rattle.std.specs.Prelude.{ℕ, ◌&&◌, ◌||◌, nat_le, is_some, Bool, tr
 use Rattle.std.specs.Str.{bytes_eq}
 use Rattle.toml.specs.Data.{Data, Items, no_items, item, Members, no_members, member, get_member, as_table}
 use Rattle.image_text.specs.declared.kinds.Place.{Place}
-use Rattle.image_text.specs.declared.kinds.Place.TheVariants.{Top, Level2, Domain, Segment, Entry}
+use Rattle.image_text.specs.declared.kinds.Place.TheVariants.{Top, Level2, Domain, Segment, Entry, Mail}
 use Rattle.image_text.specs.declared.kinds.Simple.{Simple}
 use Rattle.image_text.specs.declared.kinds.Simple.TheVariants.{Table}
 use Rattle.image_text.specs.Rows.{Field, Kind, One, Array, SomeTables, Pairs, Fields, Row, key_rows, version_of, if_table, all_items, items_at, Broken, first_broken}
@@ -14,6 +14,7 @@ same_place Level2 Level2 = true
 same_place Domain Domain = true
 same_place Segment Segment = true
 same_place Entry Entry = true
+same_place Mail Mail = true
 same_place _ _ = false
 
 -- the row is about tables of this place, in this version of the format
@@ -125,6 +126,7 @@ unfoldable pub all_known : ℕ → List Row → Members → Bool
 all_known version rows t =
     known_table version Top rows t && known_domains version rows (items_at (codes "domain") t)
     && known_items version Entry rows (items_at (codes "schedule") t)
+    && known_items version Mail rows (items_at (codes "mail") t)
 
 -- ---- the least broken row
 

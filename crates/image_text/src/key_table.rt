@@ -98,7 +98,7 @@ const COST_FIELDS: [Field<'static>; 9] = [
 
 const MULDIV_FIELDS: [Field<'static>; 2] = [integer!("mul"), integer!("div")];
 
-static KEY_ROWS: [Row<'static>; 32] = [
+static KEY_ROWS: [Row<'static>; 35] = [
     needs!(1, Top, "frames", Kind::One(Simple::Integer)),
     needs!(2, Top, "shared", Kind::One(Simple::Integer)),
     needs!(3, Top, "line", Kind::One(Simple::Integer)),
@@ -134,6 +134,9 @@ static KEY_ROWS: [Row<'static>; 32] = [
     may_have_2!(29, Domain, "calls", Kind::Array(Simple::Integer)),
     may_have!(30, Top, "history", Kind::One(Simple::Integer)),
     may_have!(31, Entry, "hart", Kind::One(Simple::Integer)),
+    may_have!(32, Top, "mail", Kind::Array(Simple::Table)),
+    needs!(33, Mail, "from", Kind::One(Simple::Integer)),
+    needs!(34, Mail, "to", Kind::One(Simple::Integer)),
     may_have!(37, Top, "muldiv", Kind::Fields(&MULDIV_FIELDS)),
     may_have!(38, Top, "targets", Kind::One(Simple::Integer)),
 ];

@@ -19,6 +19,8 @@ pub enum Place {
     Segment,
     /// Entries of the schedule.
     Entry,
+    /// Mailboxes.
+    Mail,
 }
 
 /// A value that is read at once.

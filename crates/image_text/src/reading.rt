@@ -6,7 +6,7 @@ ghost use Rattle.image_text.specs.Record as spec;
 ghost use Rattle.image_text.specs.Unknown.{broken_key as spec_broken_key};
 ghost use Rattle.image_text.specs.Models.{broken_model};
 ghost use Rattle.image_record.specs.Record as parts;
-ghost use Rattle.image_record.specs.Parts.{cache_model, costs_model, muldiv_model, domain_model, entry_model};
+ghost use Rattle.image_record.specs.Parts.{cache_model, costs_model, muldiv_model, domain_model, entry_model, mailbox_model};
 ghost use Rattle.image_record.specs.Parts.{segment_model, moment_model};
 ghost use Rattle.image_record.specs.Models.{raw_model};
 ghost use Rattle.image_record.specs.Outcomes.{Makes};
@@ -21,8 +21,8 @@ use crate::values::{
     table_of, text_at, truth_at,
 };
 use image_record::{
-    Raw, RawCache, RawCosts, RawDomain, RawEntry, RawMoment, RawMuldiv, RawSegment, ReadRefusal,
-    Refusal,
+    Raw, RawCache, RawCosts, RawDomain, RawEntry, RawMailbox, RawMoment, RawMuldiv, RawSegment,
+    ReadRefusal, Refusal,
 };
 use std::alloc::Global;
 use toml::{Table, Value};
@@ -243,6 +243,29 @@ impl Item for RawEntry {
     }
 }
 
+#[tactic(auto, unfolding(crate::specs::Record::mailbox_of))]
+fn mailbox_of(table: &Table) -> RawMailbox
+    ensures value { mailbox_model result ≡ spec.mailbox_of (table_view table.now) }
+{
+    RawMailbox {
+        from: integer_at(table, "from"),
+        to: integer_at(table, "to"),
+    }
+}
+
+impl Item for RawMailbox {
+    ghost Part = { parts.RawMailbox };
+
+    ghost model = { mailbox_model };
+
+    ghost part_in = { spec.mailbox_in };
+
+    fn read(alloc: Global, value: &Value) -> Result<Self, ReadRefusal> {
+        let empty = Table::new(alloc);
+        Ok(mailbox_of(table_of(value, &empty)))
+    }
+}
+
 #[tactic(auto, unfolding(crate::specs::Record::record_of))]
 fn record_of(alloc: Global, table: &Table) -> Result<Raw, ReadRefusal>
     requires whole { spec_broken_key (table_view table.now) ≡ None }
@@ -254,6 +277,7 @@ fn record_of(alloc: Global, table: &Table) -> Result<Raw, ReadRefusal>
     let tlb = cache_at(alloc, table, "tlb")?;
     let domains = read_items(alloc, items_at(table, "domain"))?;
     let schedule = read_items(alloc, items_at(table, "schedule"))?;
+    let mail = read_items(alloc, items_at(table, "mail"))?;
     Ok(Raw {
         version: version_of(table),
         frames: integer_at(table, "frames"),
@@ -271,6 +295,7 @@ fn record_of(alloc: Global, table: &Table) -> Result<Raw, ReadRefusal>
         targets: integer_if_at(table, "targets"),
         domains,
         schedule,
+        mail,
     })
 }
 
@@ -317,8 +342,8 @@ fn read_text(alloc: Global, bytes: &[u8]) -> Result<Raw, ReadRefusal>
 /// # Errors
 ///
 /// `Broken` with K1 where the bytes are no UTF-8 or no TOML, and with K2 where
-/// they break a row of the key table: the least such row, and the least domain
-/// or entry that breaks it, from 0. `Memory` where memory runs out.
+/// they break a row of the key table: the least such row, and the least domain,
+/// entry or box that breaks it, from 0. `Memory` where memory runs out.
 pub fn read_image(alloc: Global, bytes: &[u8]) -> Result<Raw, ReadRefusal>
     ensures found { Agrees raw_model result (spec.image_of bytes.now) }
 {

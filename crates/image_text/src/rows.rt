@@ -21,7 +21,7 @@ pub struct Row<'a> {
     pub kind: Kind<'a>,
 }
 
-/// What is broken: the row, and the domain or entry.
+/// What is broken: the row, and the domain, entry or box.
 #[derive(Clone, Copy)]
 pub struct Broken {
     pub row: u8,
@@ -89,6 +89,7 @@ fn passes(row: &Row<'_>, value: &Value) -> bool
         Place::Level2 => whole_item(row, value),
         Place::Domain => whole_item(row, value),
         Place::Entry => whole_item(row, value),
+        Place::Mail => whole_item(row, value),
     }
 }
 
@@ -120,6 +121,7 @@ fn broken_at(row: &Row<'_>, table: &Table) -> Option<usize>
         Place::Domain => first_failing(row, items_at(table, "domain")),
         Place::Segment => first_failing(row, items_at(table, "domain")),
         Place::Entry => first_failing(row, items_at(table, "schedule")),
+        Place::Mail => first_failing(row, items_at(table, "mail")),
     }
 }
 

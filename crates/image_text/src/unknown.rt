@@ -21,6 +21,7 @@ fn same_place(first: Place, second: Place) -> bool
         (Place::Domain, Place::Domain) => true,
         (Place::Segment, Place::Segment) => true,
         (Place::Entry, Place::Entry) => true,
+        (Place::Mail, Place::Mail) => true,
         _ => false,
     }
 }
@@ -270,5 +271,8 @@ pub fn all_known(version: u8, rows: &[Row<'_>], table: &Table) -> bool
     if !known_domains(version, rows, items_at(table, "domain")) {
         return false;
     }
-    known_items(version, Place::Entry, rows, items_at(table, "schedule"))
+    if !known_items(version, Place::Entry, rows, items_at(table, "schedule")) {
+        return false;
+    }
+    known_items(version, Place::Mail, rows, items_at(table, "mail"))
 }

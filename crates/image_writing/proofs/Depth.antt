@@ -1,11 +1,11 @@
 -- What is written isn't nested deeply.
-use Rattle.std.proofs.Common.{ℕ, ◌≤◌, ℤ, List, codes, map, Option, Some, None, option_map, Ordering, Less, Equal, Greater, nat_cmp, arith}
+use Rattle.std.proofs.Common.{ℕ, ◌≤◌, ℤ, List, [], ◌∷◌, codes, map, Option, Some, None, option_map, Ordering, Less, Equal, Greater, nat_cmp, arith}
 use Rattle.std.specs.Cmp.Lexicographic.{slice_cmp}
 use Rattle.std.specs.Ordering.{match_ordering}
 use Rattle.toml.specs.Data.{Data, string, integer, Members, no_members, member, depth, items_depth, members_depth}
 use Rattle.toml.specs.View.{items_of}
-use Rattle.image_record.specs.Record.{Raw, RawSegment, RawMoment, RawDomain, RawEntry, RawMuldiv}
-use Rattle.image_writing.specs.Data.{integers, put_member, put_if, segment_members, segment_data, moment_data, plain_domain, domain_members, domain_data, entry_members, entry_data, cache_members, level2_members, costs_members, muldiv_members, muldiv_data, plain_members, with_targets, record_members}
+use Rattle.image_record.specs.Record.{Raw, RawSegment, RawMoment, RawDomain, RawEntry, RawMailbox, RawMuldiv}
+use Rattle.image_writing.specs.Data.{integers, put_member, put_if, segment_members, segment_data, moment_data, plain_domain, domain_members, domain_data, entry_members, entry_data, mailbox_members, mailbox_data, mail_data, some_mail, cache_members, level2_members, costs_members, muldiv_members, muldiv_data, plain_members, with_targets, with_muldiv, record_members}
 use Rattle.image_writing.proofs.Items.{Any, shallow}
 
 -- ---- a value more
@@ -87,8 +87,20 @@ unfolding muldiv_members
 muldiv_depth None ms h = h
 muldiv_depth (Some c) ms h = put_depth 4 (codes "muldiv") (muldiv_data c) ms (omega arith) h
 
+mailbox_depth : (b : RawMailbox) → depth (mailbox_data b) ≤ 1
+unfolding mailbox_members
+mailbox_depth b = omega arith
+
+mail_depth : (bs : List RawMailbox) (ms : Members) → members_depth ms ≤ 4
+    → members_depth (put_if (codes "mail") (option_map mail_data (some_mail bs)) ms) ≤ 4
+mail_depth [] ms h = h
+mail_depth (b ∷ bs) ms h =
+    let here = shallow Any mailbox_data 1 mailbox_depth (b ∷ bs) in
+    put_depth 4 (codes "mail") (mail_data (b ∷ bs)) ms (omega (arith, here)) h
+
 pub record_depth : (r : Raw) → members_depth (record_members r) ≤ 80
-unfolding record_members with_targets
+unfolding record_members with_muldiv with_targets
 record_depth r =
-    let all = muldiv_depth r.muldiv _ (targets_depth r.targets (plain_members r) (all_depth r)) in
+    let machine = muldiv_depth r.muldiv _ (targets_depth r.targets (plain_members r) (all_depth r)) in
+    let all = mail_depth r.mail _ machine in
     omega (arith, all)

@@ -67,6 +67,26 @@ pub if_other : (key l : List ℕ) → same_key key l ≡ false → (o : Option D
 if_other key l other None ms = refl
 if_other key l other (Some d) ms = put_other key l d other ms
 
+-- ---- the key itself
+
+module _ (key : List ℕ) (d : Data) (same : slice_cmp nat_cmp key key ≡ Equal) where
+  there_at : (o : Ordering) (m : List ℕ) (e : Data) (ms : Members) → slice_cmp nat_cmp key m ≡ o
+      → get_member key (put_member key d ms) ≡ Some d
+      → get_member key (match_ordering o (member key d (member m e ms)) (member m d ms) (member m e (put_member key d ms)))
+      ≡ Some d
+  there_at Less m e ms is rest = rw same refl
+  there_at Equal m e ms is rest = rw is refl
+  there_at Greater m e ms is rest = rw is rest
+
+  put_there : (ms : Members) → get_member key (put_member key d ms) ≡ Some d
+  put_there no_members = rw same refl
+  put_there (member m e ms) = there_at (slice_cmp nat_cmp key m) m e ms refl (put_there ms)
+
+pub if_there : (key : List ℕ) → slice_cmp nat_cmp key key ≡ Equal → (o : Option Data) (ms : Members)
+    → get_member key ms ≡ None → get_member key (put_if key o ms) ≡ o
+if_there key same None ms none = none
+if_there key same (Some d) ms none = put_there key d same ms
+
 -- ---- which keys there are
 
 module _ (p : List ℕ → Bool) (l : List ℕ) (d : Data) (known : p l ≡ true) where

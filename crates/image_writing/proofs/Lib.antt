@@ -9,3 +9,4 @@ pub mod ReadBack
 pub mod Mapped
 pub mod Floatless
 pub mod OneText
+pub mod SomeMail

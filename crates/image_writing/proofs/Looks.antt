@@ -3,8 +3,8 @@ use Rattle.std.proofs.Common.{◌≡◌, ℕ, ℤ, false, List, map, codes, Opti
 use Rattle.toml.specs.Data.{string, integer, array, table, Members, get_member, same_key}
 use Rattle.toml.specs.View.{items_of}
 use Rattle.image_record.specs.Record.{Raw, RawMuldiv, RawDomain}
-use Rattle.image_writing.specs.Data.{number, integers, texts, put_if, cache_members, costs_members, level2_of, segment_data, moment_data, domain_data, entry_data, muldiv_data, plain_domain, domain_members, plain_members, with_targets, record_members}
-use Rattle.image_writing.proofs.Inserts.{if_other}
+use Rattle.image_writing.specs.Data.{number, integers, texts, put_if, cache_members, costs_members, level2_of, segment_data, moment_data, domain_data, entry_data, muldiv_data, mail_data, some_mail, plain_domain, domain_members, plain_members, with_targets, with_muldiv, record_members}
+use Rattle.image_writing.proofs.Inserts.{if_other, if_there}
 
 -- ---- a domain
 
@@ -50,6 +50,7 @@ pub record Looks (t : Members) (r : Raw) : Type 0 where
   pub l1i : get_member (codes "l1i") t ≡ Some (table (cache_members r.l1i))
   pub l2 : get_member (codes "l2") t ≡ Some (table (level2_of r))
   pub line : get_member (codes "line") t ≡ Some (integer r.line)
+  pub mail : get_member (codes "mail") t ≡ option_map mail_data (some_mail r.mail)
   pub muldiv : get_member (codes "muldiv") t ≡ option_map muldiv_data r.muldiv
   pub predictor : get_member (codes "predictor") t ≡ Some (integer r.predictor)
   pub schedule : get_member (codes "schedule") t ≡ Some (array (items_of (map entry_data r.schedule)))
@@ -59,14 +60,24 @@ pub record Looks (t : Members) (r : Raw) : Type 0 where
   pub version : get_member (codes "version") t ≡ Some (number r.version)
 
 module _ (r : Raw) where
-  -- a key that no image may leave out
-  past : (key : List ℕ) → same_key key (codes "muldiv") ≡ false → same_key key (codes "targets") ≡ false
-      → get_member key (record_members r) ≡ get_member key (plain_members r)
-  unfolding record_members with_targets
-  past key other another =
+  past_mail : (key : List ℕ) → same_key key (codes "mail") ≡ false
+      → get_member key (record_members r) ≡ get_member key (with_muldiv r)
+  unfolding record_members
+  past_mail key other = if_other key (codes "mail") other (option_map mail_data (some_mail r.mail)) (with_muldiv r)
+
+  past_machine : (key : List ℕ) → same_key key (codes "muldiv") ≡ false → same_key key (codes "targets") ≡ false
+      → get_member key (with_muldiv r) ≡ get_member key (plain_members r)
+  unfolding with_muldiv with_targets
+  past_machine key other another =
       if_other key (codes "muldiv") other (option_map muldiv_data r.muldiv)
       (put_if (codes "targets") (option_map integer r.targets) (plain_members r))
       ∙ if_other key (codes "targets") another (option_map integer r.targets) (plain_members r)
+
+  -- a key that no image may leave out
+  past : (key : List ℕ) → same_key key (codes "mail") ≡ false → same_key key (codes "muldiv") ≡ false
+      → same_key key (codes "targets") ≡ false
+      → get_member key (record_members r) ≡ get_member key (plain_members r)
+  past key first second third = past_mail key first ∙ past_machine key second third
 
   targets_here : (x : Option ℤ)
       → get_member (codes "targets") (put_if (codes "targets") (option_map integer x) (plain_members r))
@@ -84,24 +95,28 @@ module _ (r : Raw) where
   muldiv_here (Some c) (Some z) = refl
 
   pub looks : Looks (record_members r) r
-  unfolding record_members with_targets
+  unfolding record_members with_muldiv with_targets
   looks = record {
-    costs = past (codes "costs") refl refl;
-    domain = past (codes "domain") refl refl;
-    frames = past (codes "frames") refl refl;
-    history = past (codes "history") refl refl;
-    l1d = past (codes "l1d") refl refl;
-    l1i = past (codes "l1i") refl refl;
-    l2 = past (codes "l2") refl refl;
-    line = past (codes "line") refl refl;
-    muldiv = muldiv_here r.muldiv r.targets;
-    predictor = past (codes "predictor") refl refl;
-    schedule = past (codes "schedule") refl refl;
-    shared = past (codes "shared") refl refl;
+    costs = past (codes "costs") refl refl refl;
+    domain = past (codes "domain") refl refl refl;
+    frames = past (codes "frames") refl refl refl;
+    history = past (codes "history") refl refl refl;
+    l1d = past (codes "l1d") refl refl refl;
+    l1i = past (codes "l1i") refl refl refl;
+    l2 = past (codes "l2") refl refl refl;
+    line = past (codes "line") refl refl refl;
+    mail =
+        if_there (codes "mail") refl (option_map mail_data (some_mail r.mail)) (with_muldiv r)
+        (past_machine (codes "mail") refl refl);
+    muldiv = past_mail (codes "muldiv") refl ∙ muldiv_here r.muldiv r.targets;
+    predictor = past (codes "predictor") refl refl refl;
+    schedule = past (codes "schedule") refl refl refl;
+    shared = past (codes "shared") refl refl refl;
     targets =
-        if_other (codes "targets") (codes "muldiv") refl (option_map muldiv_data r.muldiv)
+        past_mail (codes "targets") refl
+        ∙ if_other (codes "targets") (codes "muldiv") refl (option_map muldiv_data r.muldiv)
         (put_if (codes "targets") (option_map integer r.targets) (plain_members r))
         ∙ targets_here r.targets;
-    tlb = past (codes "tlb") refl refl;
-    version = past (codes "version") refl refl;
+    tlb = past (codes "tlb") refl refl refl;
+    version = past (codes "version") refl refl refl;
   }

@@ -5,8 +5,8 @@ use Rattle.std.specs.Ordering.{match_ordering}
 use Rattle.toml.specs.Data.{Data, string, integer, Members, no_members, member}
 use Rattle.toml.specs.View.{items_of}
 use Rattle.toml.specs.Text.{IsDocumentText}
-use Rattle.image_record.specs.Record.{Raw, RawSegment, RawDomain, RawEntry, RawMuldiv}
-use Rattle.image_writing.specs.Data.{integers, put_member, put_if, segment_members, segment_data, moment_data, plain_domain, domain_members, domain_data, entry_members, entry_data, cache_members, level2_members, costs_members, muldiv_members, muldiv_data, scheduled_members, plain_members, with_targets, record_members}
+use Rattle.image_record.specs.Record.{Raw, RawSegment, RawDomain, RawEntry, RawMailbox, RawMuldiv}
+use Rattle.image_writing.specs.Data.{integers, put_member, put_if, segment_members, segment_data, moment_data, plain_domain, domain_members, domain_data, entry_members, entry_data, mailbox_members, mailbox_data, mail_data, some_mail, cache_members, level2_members, costs_members, muldiv_members, muldiv_data, scheduled_members, plain_members, with_targets, with_muldiv, record_members}
 use Rattle.image_writing.specs.Text.{text_of}
 use Rattle.image_writing.proofs.Floatless.{NoFloat, NoFloatItem, NoFloatMember, one_text}
 
@@ -63,6 +63,10 @@ no_float_entry : (e : RawEntry) → NoFloat (entry_data e)
 unfolding entry_members
 no_float_entry e = (tt, (tt, (tt, (tt, tt))))
 
+no_float_mailbox : (b : RawMailbox) → NoFloat (mailbox_data b)
+unfolding mailbox_members
+no_float_mailbox b = (tt, (tt, tt))
+
 no_float_muldiv : (c : RawMuldiv) → NoFloat (muldiv_data c)
 unfolding muldiv_members
 no_float_muldiv c = (tt, (tt, tt))
@@ -90,10 +94,11 @@ no_float_plain r = (
 )
 
 no_float : (r : Raw) → NoFloatMember (record_members r)
-unfolding record_members with_targets
+unfolding record_members with_muldiv with_targets
 no_float r =
-    put_some (codes "muldiv") muldiv_data no_float_muldiv r.muldiv _
-    (put_some (codes "targets") integer (λ z. tt) r.targets (plain_members r) (no_float_plain r))
+    put_some (codes "mail") mail_data (each_item mailbox_data no_float_mailbox) (some_mail r.mail) _
+    (put_some (codes "muldiv") muldiv_data no_float_muldiv r.muldiv _
+    (put_some (codes "targets") integer (λ z. tt) r.targets (plain_members r) (no_float_plain r)))
 
 pub written : (r : Raw) (t : List ℕ) → IsDocumentText false (record_members r) t → t ≡ text_of r
 unfolding text_of

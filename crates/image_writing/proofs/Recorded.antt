@@ -1,12 +1,12 @@
 -- The record of the table that a record is written as is this record.
-use Rattle.std.proofs.Common.{◌≡◌, ℕ, ◌<◌, ◌≤◌, ◌^◌, ◌⊎◌, inl, inr, ℤ, pos, List, map, length, Option, Some, None, option_map, refl, ap, ap₂, ◌∙◌, arith}
+use Rattle.std.proofs.Common.{◌≡◌, ℕ, ◌<◌, ◌≤◌, ◌^◌, ◌⊎◌, inl, inr, ℤ, pos, List, [], ◌∷◌, map, length, Option, Some, None, option_map, refl, ap, ap₂, ◌∙◌, arith}
 use Rattle.std.proofs.lemmas.Bool.{le-leb}
 use Rattle.toml.specs.Data.{string, integer}
 use Rattle.toml.specs.View.{items_of}
-use Rattle.image_record.specs.Record.{Raw, RawSegment, RawMoment, RawDomain, RawEntry, RawMuldiv, IsRawSegment, no_raw_segment, no_raw_domain, raw_domain}
-use Rattle.image_text.specs.Rows.{version_of, version_from}
-use Rattle.image_text.specs.Record.{ranged, integer_of, text_of, integers_in, items_if, map_items, segment_of, segment_in, moment_in, domain_of, domain_in, entry_of, entry_in, cache_of, costs_of, muldiv_of, table_if, integer_if, record_of}
-use Rattle.image_writing.specs.Data.{integers, segment_members, segment_data, moment_data, domain_data, entry_members, entry_data, cache_members, level2_members, costs_members, muldiv_members, muldiv_data, record_members}
+use Rattle.image_record.specs.Record.{Raw, RawSegment, RawMoment, RawDomain, RawEntry, RawMailbox, RawMuldiv, IsRawSegment, no_raw_segment, no_raw_domain, raw_domain}
+use Rattle.image_text.specs.Rows.{version_of, version_from, items_or_none}
+use Rattle.image_text.specs.Record.{ranged, integer_of, text_of, integers_in, items_if, map_items, segment_of, segment_in, moment_in, domain_of, domain_in, entry_of, entry_in, mailbox_of, mailbox_in, cache_of, costs_of, muldiv_of, table_if, integer_if, record_of}
+use Rattle.image_writing.specs.Data.{integers, segment_members, segment_data, moment_data, domain_data, entry_members, entry_data, mailbox_members, mailbox_data, mail_data, some_mail, cache_members, level2_members, costs_members, muldiv_members, muldiv_data, record_members}
 use Rattle.image_writing.specs.Writing.{IsWritable}
 use Rattle.image_writing.proofs.Items.{Each, each_from, Any, any_each, read_all}
 use Rattle.image_writing.proofs.Looks.{domain_looks, looks}
@@ -93,6 +93,14 @@ entry_read : (e : RawEntry) → entry_in (entry_data e) ≡ e
 unfolding entry_of entry_members
 entry_read e = refl
 
+mailbox_read : (b : RawMailbox) → mailbox_in (mailbox_data b) ≡ b
+unfolding mailbox_of mailbox_members
+mailbox_read b = refl
+
+mail_read : (bs : List RawMailbox) → map_items mailbox_in (items_or_none (option_map mail_data (some_mail bs))) ≡ bs
+mail_read [] = refl
+mail_read (b ∷ bs) = read_all Any mailbox_data mailbox_in (λ x any. mailbox_read x) (b ∷ bs) (any_each (b ∷ bs))
+
 muldiv_read : (c : Option RawMuldiv) → option_map muldiv_of (table_if (option_map muldiv_data c)) ≡ c
 unfolding muldiv_of muldiv_members
 muldiv_read None = refl
@@ -129,8 +137,10 @@ recorded r w =
       l.targets,
       l.domain,
       l.schedule,
+      l.mail,
       muldiv_read r.muldiv,
       targets_read r.targets,
       read_all (IsGood r.version) domain_data domain_in (domain_read r.version) r.domains (good r w),
       read_all Any entry_data entry_in (λ e any. entry_read e) r.schedule (any_each r.schedule),
+      mail_read r.mail,
     )

@@ -3,13 +3,13 @@ use Rattle.std.proofs.Common.{◌≡◌, ℕ, ◌≤◌, ◌⊎◌, inl, inr, �
 use Rattle.std.proofs.lemmas.Bool.{le-leb, and_parts}
 use Rattle.toml.specs.Data.{Data, string, integer, Members, get_member, as_table, as_integer, as_str}
 use Rattle.toml.specs.View.{items_of}
-use Rattle.image_record.specs.Record.{Raw, RawSegment, RawMoment, RawDomain, RawEntry, RawMuldiv, IsRawSegment}
+use Rattle.image_record.specs.Record.{Raw, RawSegment, RawMoment, RawDomain, RawEntry, RawMailbox, RawMuldiv, IsRawSegment}
 use Rattle.image_text.specs.declared.kinds.Place.{Place}
-use Rattle.image_text.specs.declared.kinds.Place.TheVariants.{Top, Domain as DomainPlace, Segment as SegmentPlace, Entry as EntryPlace}
-use Rattle.image_text.specs.declared.kinds.Simple.TheVariants.{Integer}
-use Rattle.image_text.specs.Rows.{Row, Array, Fields, One, key_rows, cache_fields, level2_fields, cost_fields, muldiv_fields, fits, fits_if, within, whole_in, whole_item, whole_segments, all_items, count_items, is_pair_value, first_failing, broken_at, broken_in, first_broken}
+use Rattle.image_text.specs.declared.kinds.Place.TheVariants.{Top, Domain as DomainPlace, Segment as SegmentPlace, Entry as EntryPlace, Mail as MailPlace}
+use Rattle.image_text.specs.declared.kinds.Simple.TheVariants.{Integer, Table}
+use Rattle.image_text.specs.Rows.{Row, Array, Fields, One, key_rows, cache_fields, level2_fields, cost_fields, muldiv_fields, fits, fits_if, within, whole_in, whole_item, whole_segments, items_or_none, all_items, count_items, is_pair_value, first_failing, broken_at, broken_in, first_broken}
 use Rattle.image_text.specs.Unknown.{no_key, no_key_in, same_place, is_of, is_known, all_keys, no_more_at, no_more_if, no_more_in, known_table, known_item, known_domain, known_segments, all_known, broken_key}
-use Rattle.image_writing.specs.Data.{integers, segment_members, segment_data, moment_data, domain_members, domain_data, entry_members, entry_data, cache_members, level2_members, costs_members, muldiv_members, muldiv_data, plain_domain, plain_members, with_targets, record_members}
+use Rattle.image_writing.specs.Data.{integers, segment_members, segment_data, moment_data, domain_members, domain_data, entry_members, entry_data, mailbox_members, mailbox_data, mail_data, some_mail, cache_members, level2_members, costs_members, muldiv_members, muldiv_data, plain_domain, plain_members, with_targets, with_muldiv, record_members}
 use Rattle.image_writing.specs.Writing.{IsWritable}
 use Rattle.image_writing.proofs.Inserts.{if_keys}
 use Rattle.image_writing.proofs.Items.{Any, any_each, all_made, none_failing, no_keys, counted}
@@ -90,6 +90,25 @@ calls_whole : (c : Option (List ℤ)) → fits_if false (Array Integer) (option_
 unfolding fits
 calls_whole None = refl
 calls_whole (Some zs) = all_integers zs
+
+-- ---- the boxes
+
+are_tables : (bs : List RawMailbox) → all_items (λ d. is_some (as_table d)) (items_of (map mailbox_data bs)) ≡ true
+are_tables bs = all_made Any mailbox_data (λ d. is_some (as_table d)) (λ b any. refl) bs (any_each bs)
+
+mail_whole : (bs : List RawMailbox) → fits_if false (Array Table) (option_map mail_data (some_mail bs)) ≡ true
+unfolding fits
+mail_whole [] = refl
+mail_whole (b ∷ bs) = are_tables (b ∷ bs)
+
+in_mail : (test : Data → Bool) → ((b : RawMailbox) → test (mailbox_data b) ≡ true) → (bs : List RawMailbox)
+    → first_failing test 0 (items_or_none (option_map mail_data (some_mail bs))) ≡ None
+in_mail test pass [] = refl
+in_mail test pass (b ∷ bs) = none_failing Any mailbox_data test (λ x any. pass x) 0 (b ∷ bs) (any_each (b ∷ bs))
+
+mail_alone : (bs : List RawMailbox) → no_more_at (Array Table) (option_map mail_data (some_mail bs)) ≡ true
+mail_alone [] = refl
+mail_alone (b ∷ bs) = all_made Any mailbox_data (λ d. is_some (as_table d) || no_key d) (λ x any. refl) (b ∷ bs) (any_each (b ∷ bs))
 
 -- ---- all rows
 
@@ -193,18 +212,45 @@ module _ (r : Raw) (w : IsWritable r) where
   )
 
   later_whole : Whole t (drop 25 key_rows)
-  unfolding Whole key_rows whole_in whole_item fits level2_members entry_members
-  later_whole =
-      (if_whole _ (rw (looks r).l2 refl), (if_whole _ (rw (looks r).version version_whole), (rw (looks r).domain (in_domains _ (λ o is. rw (domain_looks o).calls (calls_whole o.calls))), (if_whole _ (rw (looks r).history refl), (rw (looks r).schedule (in_entries _ (λ e. refl)), (if_whole _ (rw (looks r).muldiv (muldiv_whole r.muldiv)), (if_whole _ (rw (looks r).targets (targets_whole r.targets)), tt)))))))
+  unfolding Whole key_rows whole_in whole_item fits level2_members entry_members mailbox_members
+  later_whole = (
+    if_whole _ (rw (looks r).l2 refl),
+    (
+      if_whole _ (rw (looks r).version version_whole),
+      (
+        rw (looks r).domain (in_domains _ (λ o is. rw (domain_looks o).calls (calls_whole o.calls))),
+        (
+          if_whole _ (rw (looks r).history refl),
+          (
+            rw (looks r).schedule (in_entries _ (λ e. refl)),
+            (
+              if_whole _ (rw (looks r).mail (mail_whole r.mail)),
+              (
+                rw (looks r).mail (in_mail _ (λ b. refl) r.mail),
+                (
+                  rw (looks r).mail (in_mail _ (λ b. refl) r.mail),
+                  (
+                    if_whole _ (rw (looks r).muldiv (muldiv_whole r.muldiv)),
+                    (if_whole _ (rw (looks r).targets (targets_whole r.targets)), tt),
+                  ),
+                ),
+              ),
+            ),
+          ),
+        ),
+      ),
+    ),
+  )
 
   -- ---- no other keys
 
-  top_keys : (p : List ℕ → Bool) → p (codes "muldiv") ≡ true → p (codes "targets") ≡ true
+  top_keys : (p : List ℕ → Bool) → p (codes "mail") ≡ true → p (codes "muldiv") ≡ true → p (codes "targets") ≡ true
       → all_keys p (plain_members r) ≡ true → all_keys p t ≡ true
-  unfolding record_members with_targets
-  top_keys p muldiv targets plain =
-      if_keys p (codes "muldiv") muldiv (option_map muldiv_data r.muldiv) _
-      (if_keys p (codes "targets") targets (option_map integer r.targets) (plain_members r) plain)
+  unfolding record_members with_muldiv with_targets
+  top_keys p mail muldiv targets plain =
+      if_keys p (codes "mail") mail (option_map mail_data (some_mail r.mail)) _
+      (if_keys p (codes "muldiv") muldiv (option_map muldiv_data r.muldiv) _
+      (if_keys p (codes "targets") targets (option_map integer r.targets) (plain_members r) plain))
 
   muldiv_alone : (c : Option RawMuldiv) → no_more_at (Fields muldiv_fields) (option_map muldiv_data c) ≡ true
   unfolding muldiv_fields muldiv_members
@@ -224,14 +270,14 @@ module _ (r : Raw) (w : IsWritable r) where
   top_more : AllMore Top t key_rows
   unfolding key_rows cache_fields level2_fields cost_fields cache_members level2_members costs_members
   top_more =
-      ((λ e. rw (looks r).frames refl), ((λ e. rw (looks r).shared refl), ((λ e. rw (looks r).line refl), ((λ e. rw (looks r).l1i refl), ((λ e. rw (looks r).l1d refl), ((λ e. rw (looks r).l2 refl), ((λ e. rw (looks r).tlb refl), ((λ e. rw (looks r).predictor refl), ((λ e. rw (looks r).costs refl), ((λ e. rw (looks r).domain domains_alone), ((λ e. cc), ((λ e. cc), ((λ e. cc), ((λ e. cc), ((λ e. cc), ((λ e. cc), ((λ e. cc), ((λ e. cc), ((λ e. cc), ((λ e. cc), ((λ e. cc), ((λ e. rw (looks r).schedule entries_alone), ((λ e. cc), ((λ e. cc), ((λ e. cc), ((λ e. cc), ((λ e. rw (looks r).version refl), ((λ e. cc), ((λ e. rw (looks r).history refl), ((λ e. cc), ((λ e. rw (looks r).muldiv (muldiv_alone r.muldiv)), ((λ e. rw (looks r).targets (targets_alone r.targets)), tt))))))))))))))))))))))))))))))))
+      ((λ e. rw (looks r).frames refl), ((λ e. rw (looks r).shared refl), ((λ e. rw (looks r).line refl), ((λ e. rw (looks r).l1i refl), ((λ e. rw (looks r).l1d refl), ((λ e. rw (looks r).l2 refl), ((λ e. rw (looks r).tlb refl), ((λ e. rw (looks r).predictor refl), ((λ e. rw (looks r).costs refl), ((λ e. rw (looks r).domain domains_alone), ((λ e. cc), ((λ e. cc), ((λ e. cc), ((λ e. cc), ((λ e. cc), ((λ e. cc), ((λ e. cc), ((λ e. cc), ((λ e. cc), ((λ e. cc), ((λ e. cc), ((λ e. rw (looks r).schedule entries_alone), ((λ e. cc), ((λ e. cc), ((λ e. cc), ((λ e. cc), ((λ e. rw (looks r).version refl), ((λ e. cc), ((λ e. rw (looks r).history refl), ((λ e. cc), ((λ e. rw (looks r).mail (mail_alone r.mail)), ((λ e. cc), ((λ e. cc), ((λ e. rw (looks r).muldiv (muldiv_alone r.muldiv)), ((λ e. rw (looks r).targets (targets_alone r.targets)), tt)))))))))))))))))))))))))))))))))))
 
   top_known : known_table r.version Top key_rows t ≡ true
   unfolding known_table key_rows
   top_known =
       both _ _
-      (by_version (λ n. all_keys (is_known n Top key_rows) t ≡ true) (top_keys (is_known 1 Top key_rows) refl refl refl)
-      (top_keys (is_known 2 Top key_rows) refl refl refl) r.version w.version) (all_more r.version Top t key_rows top_more)
+      (by_version (λ n. all_keys (is_known n Top key_rows) t ≡ true) (top_keys (is_known 1 Top key_rows) refl refl refl refl)
+      (top_keys (is_known 2 Top key_rows) refl refl refl refl) r.version w.version) (all_more r.version Top t key_rows top_more)
 
 -- ---- in a domain
 
@@ -263,7 +309,7 @@ segments_alone ss = all_made Any segment_data _ (λ s any. refl) ss (any_each ss
 domain_more : (o : RawDomain) → AllMore DomainPlace (domain_members o) key_rows
 unfolding key_rows
 domain_more o =
-    ((λ e. cc), ((λ e. cc), ((λ e. cc), ((λ e. cc), ((λ e. cc), ((λ e. cc), ((λ e. cc), ((λ e. cc), ((λ e. cc), ((λ e. cc), ((λ e. rw (domain_looks o).name refl), ((λ e. rw (domain_looks o).colours (integers_alone o.colours)), ((λ e. rw (domain_looks o).entry refl), ((λ e. rw (domain_looks o).segment (segments_alone o.segments)), ((λ e. cc), ((λ e. cc), ((λ e. cc), ((λ e. cc), ((λ e. rw (domain_looks o).caps (texts_alone o.caps)), ((λ e. rw (domain_looks o).lines (integers_alone o.lines)), ((λ e. rw (domain_looks o).moments (pairs_alone o.moments)), ((λ e. cc), ((λ e. cc), ((λ e. cc), ((λ e. cc), ((λ e. cc), ((λ e. cc), ((λ e. rw (domain_looks o).calls (calls_alone o.calls)), ((λ e. cc), ((λ e. cc), ((λ e. cc), ((λ e. cc), tt))))))))))))))))))))))))))))))))
+    ((λ e. cc), ((λ e. cc), ((λ e. cc), ((λ e. cc), ((λ e. cc), ((λ e. cc), ((λ e. cc), ((λ e. cc), ((λ e. cc), ((λ e. cc), ((λ e. rw (domain_looks o).name refl), ((λ e. rw (domain_looks o).colours (integers_alone o.colours)), ((λ e. rw (domain_looks o).entry refl), ((λ e. rw (domain_looks o).segment (segments_alone o.segments)), ((λ e. cc), ((λ e. cc), ((λ e. cc), ((λ e. cc), ((λ e. rw (domain_looks o).caps (texts_alone o.caps)), ((λ e. rw (domain_looks o).lines (integers_alone o.lines)), ((λ e. rw (domain_looks o).moments (pairs_alone o.moments)), ((λ e. cc), ((λ e. cc), ((λ e. cc), ((λ e. cc), ((λ e. cc), ((λ e. cc), ((λ e. rw (domain_looks o).calls (calls_alone o.calls)), ((λ e. cc), ((λ e. cc), ((λ e. cc), ((λ e. cc), ((λ e. cc), ((λ e. cc), ((λ e. cc), tt)))))))))))))))))))))))))))))))))))
 
 segment_known : (v : ℕ) → (v ≡ 1) ⊎ (v ≡ 2) → (s : RawSegment) → known_item v SegmentPlace key_rows (segment_data s) ≡ true
 unfolding known_item known_table key_rows segment_members
@@ -272,6 +318,16 @@ segment_known v is s = by_version (λ n. known_item n SegmentPlace key_rows (seg
 entry_known : (v : ℕ) → (v ≡ 1) ⊎ (v ≡ 2) → (e : RawEntry) → known_item v EntryPlace key_rows (entry_data e) ≡ true
 unfolding known_item known_table key_rows entry_members
 entry_known v is e = by_version (λ n. known_item n EntryPlace key_rows (entry_data e) ≡ true) refl refl v is
+
+mailbox_known : (v : ℕ) → (v ≡ 1) ⊎ (v ≡ 2) → (b : RawMailbox) → known_item v MailPlace key_rows (mailbox_data b) ≡ true
+unfolding known_item known_table key_rows mailbox_members
+mailbox_known v is b = by_version (λ n. known_item n MailPlace key_rows (mailbox_data b) ≡ true) refl refl v is
+
+mail_known : (v : ℕ) → (v ≡ 1) ⊎ (v ≡ 2) → (bs : List RawMailbox)
+    → all_items (known_item v MailPlace key_rows) (items_or_none (option_map mail_data (some_mail bs))) ≡ true
+mail_known v is [] = refl
+mail_known v is (b ∷ bs) =
+    all_made Any mailbox_data (known_item v MailPlace key_rows) (λ x any. mailbox_known v is x) (b ∷ bs) (any_each (b ∷ bs))
 
 segments_known : (v : ℕ) → (v ≡ 1) ⊎ (v ≡ 2) → (o : RawDomain) → known_segments v key_rows (domain_data o) ≡ true
 segments_known v is o =
@@ -290,13 +346,15 @@ known : (r : Raw) → IsWritable r → all_known r.version key_rows (record_memb
 unfolding all_known
 known r w =
     both _ _
+    (both _ _
     (both _ _ (top_known r w)
     (rw (looks r).domain
     (all_made (IsGood r.version) domain_data (known_domain r.version key_rows) (domain_known r.version w.version) r.domains
     (good r w))))
     (rw (looks r).schedule
     (all_made Any entry_data (known_item r.version EntryPlace key_rows) (λ e any. entry_known r.version w.version e)
-    r.schedule (any_each r.schedule)))
+    r.schedule (any_each r.schedule))))
+    (rw (looks r).mail (mail_known r.version w.version r.mail))
 
 pub whole : (r : Raw) → IsWritable r → broken_key (record_members r) ≡ None
 unfolding broken_key

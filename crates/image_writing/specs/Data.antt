@@ -1,10 +1,10 @@
 -- The table of TOML that a record is written as.
-use Rattle.std.specs.Prelude.{ℕ, ℤ, pos, Bool, List, map, codes, Option, Some, None, option_map}
+use Rattle.std.specs.Prelude.{ℕ, ℤ, pos, Bool, List, [], ◌∷◌, map, codes, Option, Some, None, option_map}
 use Rattle.std.specs.Cmp.Lexicographic.{slice_cmp}
 use Rattle.std.specs.Ordering.{nat_cmp, match_ordering}
 use Rattle.toml.specs.Data.{Data, string, integer, boolean, array, table, no_items, item, Members, no_members, member}
 use Rattle.toml.specs.View.{items_of}
-use Rattle.image_record.specs.Record.{Raw, RawCache, RawCosts, RawMuldiv, RawSegment, RawMoment, RawDomain, RawEntry}
+use Rattle.image_record.specs.Record.{Raw, RawCache, RawCosts, RawMuldiv, RawSegment, RawMoment, RawDomain, RawEntry, RawMailbox}
 
 -- ---- values
 
@@ -89,6 +89,20 @@ entry_members e =
 abbrev pub entry_data : RawEntry → Data
 entry_data e = table (entry_members e)
 
+unfoldable pub mailbox_members : RawMailbox → Members
+mailbox_members b = member (codes "from") (integer b.from) (member (codes "to") (integer b.to) no_members)
+
+abbrev pub mailbox_data : RawMailbox → Data
+mailbox_data b = table (mailbox_members b)
+
+abbrev pub mail_data : List RawMailbox → Data
+mail_data bs = array (items_of (map mailbox_data bs))
+
+-- the boxes, if there are any
+abbrev pub some_mail : List RawMailbox → Option (List RawMailbox)
+some_mail [] = None
+some_mail (b ∷ bs) = Some (b ∷ bs)
+
 -- of the second level
 abbrev pub level2_of : Raw → Members
 level2_of r = level2_members r.l2 r.back
@@ -119,5 +133,8 @@ muldiv_data c = table (muldiv_members c)
 unfoldable pub with_targets : Raw → Members
 with_targets r = put_if (codes "targets") (option_map integer r.targets) (plain_members r)
 
+unfoldable pub with_muldiv : Raw → Members
+with_muldiv r = put_if (codes "muldiv") (option_map muldiv_data r.muldiv) (with_targets r)
+
 unfoldable pub record_members : Raw → Members
-record_members r = put_if (codes "muldiv") (option_map muldiv_data r.muldiv) (with_targets r)
+record_members r = put_if (codes "mail") (option_map mail_data (some_mail r.mail)) (with_muldiv r)

@@ -3,12 +3,14 @@ ghost use Rattle.std.specs.Prelude.{◌≡◌, IfOk};
 ghost use Rattle.toml.specs.Data.{array, table};
 ghost use Rattle.toml.specs.View.{table_view, view};
 ghost use Rattle.image_record.specs.Parts.{cache_model, costs_model, muldiv_model, segment_model, moment_model};
-ghost use Rattle.image_record.specs.Parts.{domain_model, entry_model};
+ghost use Rattle.image_record.specs.Parts.{domain_model, entry_model, mailbox_model};
 ghost use Rattle.image_writing.specs.Data as spec;
 
 use crate::Memory;
 use crate::tables::{AsValue, array_of, nested, put};
-use image_record::{RawCache, RawCosts, RawDomain, RawEntry, RawMoment, RawMuldiv, RawSegment};
+use image_record::{
+    RawCache, RawCosts, RawDomain, RawEntry, RawMailbox, RawMoment, RawMuldiv, RawSegment,
+};
 use std::alloc::Global;
 use toml::{Table, Value};
 
@@ -154,5 +156,20 @@ impl AsValue for RawEntry {
 
     fn value(&self, alloc: Global) -> Result<Value, Memory> {
         nested(entry_table(alloc, self))
+    }
+}
+
+fn mailbox_table(alloc: Global, mailbox: &RawMailbox) -> Result<Table, Memory>
+    ensures made { IfOk result (λ t. table_view t ≡ spec.mailbox_members (mailbox_model mailbox.now)) }
+{
+    let to = put(alloc, Ok(Table::new(alloc)), "to", mailbox.to.value(alloc));
+    put(alloc, to, "from", mailbox.from.value(alloc))
+}
+
+impl AsValue for RawMailbox {
+    ghost says = { λ b. spec.mailbox_data (mailbox_model b) };
+
+    fn value(&self, alloc: Global) -> Result<Value, Memory> {
+        nested(mailbox_table(alloc, self))
     }
 }

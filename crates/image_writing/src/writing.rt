@@ -44,6 +44,16 @@ pub fn write_image(alloc: Global, raw: &Raw) -> Result<String, Memory>
 fn image_table(alloc: Global, raw: &Raw) -> Result<Table, Memory>
     ensures made { IfOk result (λ t. table_view t ≡ spec.record_members (raw_model raw.now)) }
 {
+    let table = with_muldiv(alloc, raw);
+    if raw.mail.is_empty() {
+        return table;
+    }
+    put(alloc, table, "mail", array_of(alloc, raw.mail.as_slice()))
+}
+
+fn with_muldiv(alloc: Global, raw: &Raw) -> Result<Table, Memory>
+    ensures made { IfOk result (λ t. table_view t ≡ spec.with_muldiv (raw_model raw.now)) }
+{
     let table = with_targets(alloc, raw);
     match &raw.muldiv {
         Some(costs) => put(alloc, table, "muldiv", nested(muldiv_table(alloc, costs))),

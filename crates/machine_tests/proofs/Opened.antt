@@ -12,6 +12,7 @@ use Rattle.image_check.specs.Image.{Image, own_of}
 use Rattle.image_check.specs.Laws.{Runnable}
 use Rattle.call_table.specs.Domain.{Dom}
 use Rattle.call_table.specs.Claims.{is_mine, claims, Facts}
+use Rattle.mail_slots.specs.Boxes.{Boxes}
 use Rattle.kernel_call.specs.declared.domain.Domain.{Domain}
 use Rattle.kernel_call.specs.Facts.{HasFacts}
 use Rattle.world_view.specs.Cost.{hierarchy}
@@ -41,17 +42,17 @@ module _ (i : Image) (r : Runnable i) (memory : Contents) (x : Domain) (opened :
             (opening_facts i (separated i r) 0 r.some_domain).facts;
       }
 
-  -- the first domain runs at clock 0
+  -- the first domain runs at clock 0, whatever words are in boxes
   pub opened_runs : {P : Type 0} (rule : P → ℕ → Rule) (stands : P → ℕ → ℕ → List ℕ → Type 0)
-      (system : SystemContents P)
+      (mail : Boxes) (system : SystemContents P)
       → hierarchy i.all.hardware ≡ hierarchy_of rule system → system.core.pinned ≡ false
       → SystemStands stands system (cold (hierarchy i.all.hardware))
-      → ((m : Mem) (n root : ℕ) → KeepsLeaves m n root system.core.tlb) → Runs rule stands memory x system 0
-  opened_runs rule stands system levels pinned caches leaves =
+      → ((m : Mem) (n root : ℕ) → KeepsLeaves m n root system.core.tlb) → Runs rule stands memory mail x system 0
+  opened_runs rule stands mail system levels pinned caches leaves =
       let w = setting i.all.hardware (own_of i 0) false in
       let s : Local = record {
         dom = opening_dom i.all.hardware (own_of i 0);
-        storage = (opening i).storage;
+        storage = record (opening i).storage { boxes = mail };
         caches = cold (hierarchy i.all.hardware);
         clock = 0;
       } in
@@ -69,6 +70,7 @@ module _ (i : Image) (r : Runnable i) (memory : Contents) (x : Domain) (opened :
           };
           dom = opened.stands;
           facts = facts_at_first;
+          boxes = refl;
           layout = opened.layout;
           leaves = leaves (opening i).storage.mem memory.frames x.map;
           caches = caches;

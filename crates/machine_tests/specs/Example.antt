@@ -23,6 +23,10 @@ use Rattle.call_table.specs.Domain.{is_running}
 use Rattle.irq_partition.specs.Interrupts.{next_of}
 use Rattle.call_table.specs.Claims.{frame_of, is_shared, leaf_at, entry_places, region_of, claim_of, all_claims, claims, frames_in, is_named, free_frames, least_free}
 use Rattle.call_table.specs.Calls as calls
+use Rattle.call_table.specs.Mail.{called, called_of}
+use Rattle.mail_slots.specs.Boxes as boxes
+use Rattle.mail_slots.specs.Sides.{arrival, bring}
+use Rattle.world_view.specs.Mail.{turns}
 use Rattle.kernel_call.specs.Logs.{log_of}
 use Rattle.frame_colours.specs.Colours as colours
 use Rattle.hardware_check.specs.declared.hardware.Policy.TheVariants.{Lru}
@@ -45,8 +49,8 @@ use Rattle.mem_system.specs.Translation.{lines_of, look_of}
 use Rattle.mem_system.specs.Operations.{footprint, operation, leave, enter, shared_region, prefetch}
 use Rattle.world_view.specs.Cost.{hierarchy, region}
 use Rattle.world_view.specs.Event.{touch, frame_or_stop, translate, address_in, line_in, read, write, unless, load, store, computed, loaded, noted, guessed, settle, execute, timed, call_touches, make_call, perform, instruction, delivery_touches, interrupts_of, event}
-use Rattle.world_view.specs.Machine.{Local, setting, switch, clock_of, with_hart, paid, delivered, happened, step, steps, enter_part, with_part, opening_doms, opening, whole, alone_opening, alone_enter, alone_in, alone_out, alone_if, alone, flush_by, guarded, leave_by, own_slot, prefetch_by, run_slot_by, switch_by, switch_on, switch_work_by, whole_by, with_end, dom_of, part_of, whole_off, World, Guards, setting_by, Owned, if_due, first_of, first_due, step_among, steps_among}
-use Rattle.world_view.specs.View.{View, view, view_whole, view_alone, memory_sum}
+use Rattle.world_view.specs.Machine.{Local, setting, switch, clock_of, with_hart, paid, delivered, happened, step, steps, enter_part, with_part, opening_doms, opening, whole, alone_opening, alone_enter, alone_in, alone_out, alone_if, alone_mail, flush_by, guarded, leave_by, own_slot, prefetch_by, run_slot_by, switch_by, switch_on, switch_work_by, whole_by, with_end, dom_of, part_of, whole_off, World, Guards, setting_by, Owned, if_due, first_of, first_due, step_among, steps_among}
+use Rattle.world_view.specs.View.{View, view, view_whole, view_mailed, view_alone, memory_sum}
 use Rattle.world_view.specs.Used.{count_of, largest_of}
 
 -- addi x10, x0, byte; addi x17, x0, 1; ecall; addi x17, x0, 0; ecall
@@ -102,6 +106,7 @@ two_domains red blue = record {
         record { domain = 0; length = 10000; pad = 6150; hart = 0 }
         ∷ record { domain = 1; length = 10000; pad = 6150; hart = 0 } ∷ [];
     domains = 2;
+    mail = [];
   };
   owns =
       record {
@@ -242,7 +247,8 @@ unfolding interrupts.next_cycle interrupts.due threads.waiter threads.woken thre
     call_touches make_call perform instruction delivery_touches interrupts_of event paid delivered happened
     step steps leave_by guarded prefetch_by flush_by enter_part switch_work_by with_part switch_by switch_on
     run_slot_by own_slot with_end opening_doms opening whole_by alone_opening alone_enter alone_in alone_out
-    alone_if alone log_of colours.pool colours.frame_at view view_whole view_alone memory_sum count_of
+    alone_if alone_mail log_of colours.pool colours.frame_at view view_whole view_mailed memory_sum count_of
+    called called_of boxes.opening boxes.ends boxes.begins arrival bring turns
     largest_of two_domains interrupted with_hart beside_moment first_due step_among steps_among may_make
     calls_below
 everything = 0

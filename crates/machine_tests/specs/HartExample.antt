@@ -4,7 +4,7 @@ use Rattle.std.specs.Prelude.{◌≡◌, ℕ, zero, suc, List, [], ◌∷◌, �
 use Rattle.image_check.specs.Image.{Image}
 use Rattle.sched_table.specs.Schedule.{entries_on, harts_in, hart_for}
 use Rattle.world_view.specs.Machine.{guarded, dom_of, whole}
-use Rattle.world_view.specs.Harts.{start_on, slots_of, proceeds, begins, runs, goes_on, after, all_cold, harts, view_on, view_alone_on, next_by, after_by, harts_by, settles}
+use Rattle.world_view.specs.Harts.{start_on, slots_of, proceeds, begins, runs, goes_on, after, all_cold, harts, view_on, view_mailed_on, view_alone_on, next_by, after_by, harts_by, settles}
 use Rattle.machine_tests.specs.Example.{timed_prints, everything}
 
 abbrev pub on_two_harts : Image
@@ -32,7 +32,7 @@ one_by_one n = all_of 1 n ++ all_of 0 n
 -- all that a run computes with
 all_harts : ℕ
 unfolding everything entries_on harts_in hart_for proceeds begins runs goes_on next_by after_by all_cold harts_by settles guarded
-    view_on view_alone_on
+    view_on view_mailed_on
 all_harts = 0
 
 -- the boot that comes first finds nothing in the second level, and the other the shared lines

@@ -19,6 +19,8 @@ mod large;
 #[cfg(test)]
 mod machines;
 #[cfg(test)]
+mod mail;
+#[cfg(test)]
 mod timed;
 #[cfg(test)]
 mod unprotected;

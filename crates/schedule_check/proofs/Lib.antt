@@ -6,3 +6,4 @@ pub mod MomentCases
 pub mod Entries
 pub mod EntryCases
 pub mod HartsKept
+pub mod MailKept

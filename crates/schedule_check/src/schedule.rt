@@ -9,7 +9,7 @@ ghost use Rattle.schedule_check.specs.Schedule as spec;
 use image_record::cases::{count_case, outside, refusal};
 use image_record::{Raw, RawEntry, Refusal};
 
-fn is_number(many: usize, number: i64) -> bool
+pub(crate) fn is_number(many: usize, number: i64) -> bool
     requires small { many < 2 ^ 63 }
     ensures value { result ≡ spec.is_number many number }
 {

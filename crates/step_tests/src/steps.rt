@@ -22,6 +22,7 @@ use image_check::Hardware;
 use kernel_call::Domain;
 use l2_colour::L2;
 use machine_tests::images::{accepted, hex_of};
+use mail_slots::Mail;
 use mem_system::{CacheGeometry, Geometry, OnCore, new_parts};
 use phys_mem::PhysMem;
 use repl_policy::Lru;
@@ -138,15 +139,16 @@ fn four_steps<P: Policy>(
     core: &mut OnCore<P>,
     l2: &mut L2<P>,
     domain: &mut Domain,
+    mail: &mut Mail,
 ) -> [u64; 4]
     requires frames { memory.old.frames ≤ 2 ^ 15 }
-    requires runs { Runs P.rule P.stands_for memory.old domain.old (system core.old l2.old) 0 }
+    requires runs { Runs P.rule P.stands_for memory.old mail.old domain.old (system core.old l2.old) 0 }
     requires few { CountsUpTo 0 domain.old }
 {
-    let first = step(memory, core, l2, domain, 0, LEFT);
-    let second = step(memory, core, l2, domain, first, first + LEFT);
-    let third = step(memory, core, l2, domain, second, second + LEFT);
-    let fourth = step(memory, core, l2, domain, third, third + LEFT);
+    let first = step(memory, core, l2, domain, 0, LEFT, mail);
+    let second = step(memory, core, l2, domain, first, first + LEFT, mail);
+    let third = step(memory, core, l2, domain, second, second + LEFT, mail);
+    let fourth = step(memory, core, l2, domain, third, third + LEFT, mail);
     [first, second - first, third - second, fourth - third]
 }
 
@@ -186,7 +188,8 @@ fn costs(alloc: Global, program: &[u32], moments: &str) -> Result<Option<Events>
     let Some((mut core, mut l2)) = parts_of(alloc, &public.hardware)? else {
         return Ok(None);
     };
-    let costs = four_steps(&mut memory, &mut core, &mut l2, &mut domains[0]);
+    let mut mail = Mail::new(alloc, &[])?;
+    let costs = four_steps(&mut memory, &mut core, &mut l2, &mut domains[0], &mut mail);
     Ok(Some(told(&domains[0], costs)))
 }
 

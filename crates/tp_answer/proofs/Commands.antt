@@ -31,7 +31,7 @@ use Rattle.tp_words.specs.Words.{Reads, command}
 use Rattle.tp_answer.specs.Reading.{unless_broken, broken_for, broken_in, checked_for, record_for}
 use Rattle.tp_answer.specs.Answer.{Answer, answer, answer_of_bytes, answer_unless_broken, answer_of_record, answer_alone, answer_off, answer_redact}
 use Rattle.tp_answer.specs.Runs.{report, section_alone}
-use Rattle.tp_answer.proofs.Runs.{seen_alone, within_pads, lines_within, apart, same_section}
+use Rattle.tp_answer.proofs.Runs.{seen_mailed, seen_alone, within_pads, lines_within, apart, same_section}
 use Rattle.tp_answer.proofs.Accepting.{Found, found_in}
 use Rattle.tp_answer.proofs.Kept.{kept_accepted, same_alone, same_among}
 use Rattle.tp_answer.specs.TopCall.{Writes, Delivers, MayBeUsage, ReadsImage, Refuses, Accepts, Bounds, Isolated, Padded, LacksDomain, WritesSection, SameSection, HasManyHarts, WritesOff, KeptReadsBack, Redacts, ReadsBack, Generates, Summarizes}
@@ -342,7 +342,8 @@ is_isolated c n left left' old new r wrote =
     record {
       ran = r;
       wrote = wrote ∙ ap (after_known old) (apart r.found c n runs);
-      views = λ d is. seen_alone r.found c n runs d is;
+      mailed = λ d is. seen_mailed r.found c n runs d is;
+      views = λ d is none. seen_alone r.found c n runs d is none;
     }
 
 pub is_padded : (c : Choice) (n : ℕ) (left left' : Option (List ℕ)) (r : ReadsImage left left')
@@ -402,10 +403,10 @@ is_same_section k n left left' old new w = record {
   ran = w.ran;
   domain = w.domain;
   wrote =
-      λ c.
+      λ none c.
       w.wrote
       ∙ ap (after_known old)
-      (same_section w.ran.found c n (read_separated left left' w.ran) k w.domain);
+      (same_section w.ran.found c n (read_separated left left' w.ran) k w.domain none);
 }
 
 -- ---- a run with a guard off
@@ -468,7 +469,7 @@ redacts d a h asked done back =
             reads_back = back i found.is found.unbroken;
             accepted = kept_accepted a.items i d found.is found.unbroken;
             same_alone = λ n. same_alone i d n has;
-            same_among = λ c n. same_among a.items i d found.is found.unbroken has c n;
+            same_among = λ c n none. same_among a.items i d found.is found.unbroken has c n none;
           }
       | inr lacks ↦
           let same = is.0 ∙ ap (λ (x : Answer). x.0) (none_kept_due d i lacks) in absurd (cc same)

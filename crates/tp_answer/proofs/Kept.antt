@@ -1,5 +1,5 @@
 -- What the tenant of a domain may hold of an image that was read: it breaks no rule, and the domain's sections are the same.
-use Rattle.std.proofs.Common.{◌≡◌, ◌∙◌, ℕ, ◌<◌, List, [], length, Result, Ok, Err, sym, ap, ap₂, subst, arith}
+use Rattle.std.proofs.Common.{◌≡◌, ◌≢◌, ◌∙◌, ℕ, ◌<◌, List, [], length, Result, Ok, Err, sym, ap, ap₂, subst, arith}
 use Rattle.std.specs.Prelude.{IfOk}
 use Rattle.image_record.specs.Record as text
 use Rattle.image_text.specs.Record.{image_of}
@@ -17,6 +17,9 @@ use Rattle.image_writing.specs.Writing.{IsWritable}
 use Rattle.image_writing.proofs.Writable.{writable_law}
 use Rattle.world_view.specs.View.{View}
 use Rattle.hart_orders.specs.declared.choice.Choice.{Choice}
+use Rattle.std.specs.List.{All}
+use Rattle.image_check.specs.Public.{Public}
+use Rattle.world_view.specs.Relations.{HasNoMail}
 use Rattle.tp_report.specs.Texts.{section}
 use Rattle.tp_report.specs.Report.{section_of}
 use Rattle.tp_words.specs.declared.Command.TheVariants.{Redact}
@@ -36,15 +39,15 @@ module _ (bytes : List ℕ) (i : text.Raw) (d : ℕ) (read : image_of bytes ≡ 
   pub kept_accepted : broken (redacted i d) ≡ []
   kept_accepted = accepted_law i d (writable_law bytes i read unbroken).first unbroken
 
-  pub same_among : d < length i.domains → (c : Choice) (n : ℕ)
+  pub same_among : d < length i.domains → (c : Choice) (n : ℕ) → HasNoMail (image_from i) d
       → section_among (image_from (redacted i d)) c d n ≡ section_among (image_from i) c d n
-  same_among l c n =
+  same_among l c n none =
       let ranges = ranges_law bytes i read in
       let first = (writable_law bytes i read unbroken).first in
-      let own = same_section (image_from i) c n (runs i d ranges first unbroken l) d (here i d ranges first unbroken l) in
+      let own = same_section (image_from i) c n (runs i d ranges first unbroken l) d (here i d ranges first unbroken l) none in
       let kept =
       same_section (image_from (redacted i d)) c n (runs_too i d ranges first unbroken l) d
-      (there i d ranges first unbroken l) in
+      (there i d ranges first unbroken l) (subst (λ (p : Public). All (λ box. box.1 ≢ d) p.mail) (alike_law i d l).all none) in
       sym kept ∙ same_alone i d n l ∙ own
 
 -- ---- the record that bytes have

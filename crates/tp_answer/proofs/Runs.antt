@@ -5,19 +5,24 @@ use Rattle.image_check.specs.Image.{Image, own_of}
 use Rattle.image_check.specs.Laws.{Runnable}
 use Rattle.world_view.specs.View.{view_in}
 use Rattle.world_view.specs.Used.{largest_of}
-use Rattle.world_view.specs.Harts.{view_alone_on}
-use Rattle.world_view.specs.Relations.{IsDomain, AllWithinPads}
+use Rattle.world_view.specs.Harts.{view_mailed_on, view_alone_on}
+use Rattle.world_view.specs.Relations.{IsDomain, HasNoMail, AllWithinPads}
 use Rattle.hart_orders.specs.declared.choice.Choice.{Choice}
-use Rattle.hart_orders.proofs.ChoiceLaws.{choice_law, choice_pad, choice_largest}
+use Rattle.hart_orders.proofs.ChoiceLaws.{choice_mail, choice_law, choice_pad, choice_largest}
 use Rattle.tp_report.specs.Report.{section_of, report_with, report_of}
 use Rattle.tp_report.specs.Texts.{section}
 use Rattle.tp_report.proofs.ReportLaws.{same_report}
-use Rattle.tp_answer.specs.Runs.{world_after, report, report_apart, section_among, section_alone}
+use Rattle.tp_answer.specs.Runs.{world_after, arrivals_after, report, report_apart, section_among, section_alone}
 
 module _ (i : Image) (c : Choice) (n : ℕ) (r : Runnable i) where
-  -- of each domain what is seen of it alone
-  pub seen_alone : (d : ℕ) → IsDomain i d → view_in i d (world_after i c n) ≡ view_alone_on i d n
-  seen_alone d is = choice_law i c n d r is
+  -- of each domain what is seen of it alone, with what came to it in boxes
+  pub seen_mailed : (d : ℕ) → IsDomain i d
+      → view_in i d (world_after i c n) ≡ view_mailed_on i d (arrivals_after i c n d) n
+  seen_mailed d is = choice_mail i c n d r is
+
+  -- and where no box leads to it, with nothing
+  pub seen_alone : (d : ℕ) → IsDomain i d → HasNoMail i d → view_in i d (world_after i c n) ≡ view_alone_on i d n
+  seen_alone d is none = choice_law i c n d r is none
 
   pub within_pads : AllWithinPads i.all.schedule (world_after i c n).used
   within_pads = choice_pad i c n r
@@ -27,10 +32,11 @@ module _ (i : Image) (c : Choice) (n : ℕ) (r : Runnable i) where
 
   pub apart : report i c n ≡ report_apart i c n
   unfolding report report_apart
-  apart = same_report i r.counted (world_after i c n) (λ d. view_alone_on i d n) seen_alone
+  apart =
+      same_report i r.counted (world_after i c n) (λ d. view_mailed_on i d (arrivals_after i c n d) n) seen_mailed
 
-  -- the section of a domain alone is that of the report
-  pub same_section : (d : ℕ) → IsDomain i d
+  -- the section of such a domain alone is that of the report
+  pub same_section : (d : ℕ) → IsDomain i d → HasNoMail i d
       → section_alone i d n ≡ section_among i c d n
   unfolding section_alone section_of
-  same_section d is = ap (section d (own_of i d).name) (sym (seen_alone d is))
+  same_section d is none = ap (section d (own_of i d).name) (sym (seen_alone d is none))

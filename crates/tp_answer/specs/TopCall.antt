@@ -18,9 +18,9 @@ use Rattle.image_writing.specs.Text.{text_of}
 use Rattle.sched_table.specs.Schedule.{entry_in, harts_in}
 use Rattle.world_view.specs.Machine.{clock_of}
 use Rattle.world_view.specs.View.{view_in}
-use Rattle.world_view.specs.Harts.{progress_of, slots_of, start_on, next, harts, view_alone_on}
+use Rattle.world_view.specs.Harts.{progress_of, slots_of, start_on, next, harts, view_mailed_on, view_alone_on}
 use Rattle.world_view.specs.HartLaws.{AreHartsOf}
-use Rattle.world_view.specs.Relations.{IsDomain, AllWithinPads}
+use Rattle.world_view.specs.Relations.{IsDomain, HasNoMail, AllWithinPads}
 use Rattle.world_view.specs.Used.{largest_of}
 use Rattle.hart_orders.specs.declared.choice.Choice.{Choice}
 use Rattle.tp_report.specs.Report.{report_off, bounds_of, accepted_text, usage_text, refusal_text}
@@ -31,7 +31,7 @@ use Rattle.tp_answer.specs.declared.status.Status.{Status}
 use Rattle.tp_answer.specs.declared.status.Status.TheVariants.{Usage, ReadFault, WriteFault, Memory}
 use Rattle.tp_answer.specs.Reading.{broken_in}
 use Rattle.tp_words.specs.Words.{Reads, command}
-use Rattle.tp_answer.specs.Runs.{world_after, report_apart, section_among, section_alone}
+use Rattle.tp_answer.specs.Runs.{world_after, arrivals_after, report_apart, section_among, section_alone}
 use Rattle.tp_answer.specs.Answer.{Answer, answer}
 
 -- ---- what is written
@@ -131,11 +131,14 @@ pub record ReadsImage (left left' : Option (List ℕ)) : Type 0 where
   pub few : length bytes ≤ most_bytes
   pub read : image bytes ≡ Ok found
 
--- each section that was written is that of its domain alone, by the entries of its hart
+-- each section that was written is that of its domain alone, by the entries of its hart, with what came to it in boxes; where no
+-- box leads to it, nothing came
 pub record Isolated (c : Choice) (slots : ℕ) (left left' written written' : Option (List ℕ)) : Type 0 where
   pub ran : ReadsImage left left'
   pub wrote : written' ≡ after_known written (report_apart ran.found c slots)
-  pub views : (d : ℕ) → IsDomain ran.found d
+  pub mailed : (d : ℕ) → IsDomain ran.found d → view_in ran.found d (world_after ran.found c slots)
+      ≡ view_mailed_on ran.found d (arrivals_after ran.found c slots d) slots
+  pub views : (d : ℕ) → IsDomain ran.found d → HasNoMail ran.found d
       → view_in ran.found d (world_after ran.found c slots) ≡ view_alone_on ran.found d slots
 
 -- no switch overran its pad, no switch line says more than its pad, and each slot of each hart begins at exactly its start,
@@ -165,11 +168,12 @@ pub record WritesSection (d slots : ℕ) (left left' written written' : Option (
   pub domain : IsDomain ran.found d
   pub wrote : written' ≡ after_known written (section_alone ran.found d slots)
 
--- its section in the report of the whole machine was written, however the harts of that are chosen
+-- where no box leads to it, its section in the report of the whole machine was written, however the harts of that are chosen
 pub record SameSection (d slots : ℕ) (left left' written written' : Option (List ℕ)) : Type 0 where
   pub ran : ReadsImage left left'
   pub domain : IsDomain ran.found d
-  pub wrote : (c : Choice) → written' ≡ after_known written (section_among ran.found c d slots)
+  pub wrote : HasNoMail ran.found d → (c : Choice)
+      → written' ≡ after_known written (section_among ran.found c d slots)
 
 -- ---- a run with a guard off
 
@@ -193,7 +197,7 @@ KeptReadsBack d bytes =
     (i : text.Raw) → image_of bytes ≡ Ok i → broken i ≡ [] → image_of (text_of (redacted i d)) ≡ Ok (redacted i d)
 
 -- the image breaks no rule and has domain d, and what was written reads as the record that its tenant may hold; that one
--- breaks no rule, either, and has the same section of the domain, alone and in the report
+-- breaks no rule, either, and has the same section of the domain, alone and, where no box leads to it, in the report
 pub record Redacts (d : ℕ) (left left' written written' : Option (List ℕ)) : Type 0 where
   pub all : ReadsAll left left'
   pub record_of : text.Raw
@@ -205,7 +209,7 @@ pub record Redacts (d : ℕ) (left left' written written' : Option (List ℕ)) :
   pub accepted : broken (redacted record_of d) ≡ []
   pub same_alone : (slots : ℕ)
       → section_alone (image_from (redacted record_of d)) d slots ≡ section_alone (image_from record_of) d slots
-  pub same_among : (c : Choice) (slots : ℕ)
+  pub same_among : (c : Choice) (slots : ℕ) → HasNoMail (image_from record_of) d
       → section_among (image_from (redacted record_of d)) c d slots ≡ section_among (image_from record_of) c d slots
 
 -- ---- the image that a seed makes

@@ -7,15 +7,16 @@ use Rattle.image_check.specs.Public.{Public}
 use Rattle.image_check.specs.Image.{Image, own_of}
 use Rattle.image_check.specs.Laws.{Runnable}
 use Rattle.guards.specs.declared.Guard.{Guard}
-use Rattle.world_view.specs.Machine.{guards_of, clock_of, switch, whole, whole_by}
-use Rattle.world_view.specs.View.{View, view, view_in, view_whole, view_alone}
-use Rattle.world_view.specs.Relations.{IsDomain}
-use Rattle.world_view.specs.Harts.{Harts, Progress, IsOnOneHart, IsOutside, slots_of, harts, harts_by, view_on, view_alone_on}
+use Rattle.world_view.specs.Machine.{guards_of, clock_of, switch, whole, whole_by, arrivals}
+use Rattle.world_view.specs.Mail.{arrivals_in}
+use Rattle.world_view.specs.View.{View, view, view_in, view_whole, view_mailed, view_alone}
+use Rattle.world_view.specs.Relations.{IsDomain, HasNoMail}
+use Rattle.world_view.specs.Harts.{Harts, Progress, IsOnOneHart, IsOutside, slots_of, harts, harts_by, view_on, view_mailed_on, view_alone_on}
 use Rattle.world_view.specs.HartLaws.{IsBetween}
 use Rattle.world_view.specs.Laws.{SameWorld}
 use Rattle.world_view.proofs.harts.Clocks.{hart_between, hart_starts}
 use Rattle.world_view.proofs.harts.OneHart.{one_hart}
-use Rattle.world_view.proofs.harts.Isolation.{hart_isolation}
+use Rattle.world_view.proofs.harts.Isolation.{hart_mail, hart_isolation}
 use Rattle.world_view.proofs.harts.Whole.{switch_law, whole_law}
 use Rattle.hart_orders.proofs.Held.{progress_first}
 use Rattle.hart_set.specs.declared.set.State.{State}
@@ -106,19 +107,38 @@ module _ (v : Raw × State) (n : ℕ) (has : HasRun None v n) where
       ∙ hart_starts i 0 has.order has.accepted has.of_harts (first_there None v n has) has.outside
       ∙ ap (λ (p : Public). start p.schedule (slots_of 0 s)) entries)
 
-  -- what is seen is what is seen of it alone
-  pub alone : let i = image_of v in (d : ℕ) → IsDomain i d → view_whole i d n ≡ view_alone i.all (own_of i d) d n
+  -- what is seen is what is seen of it alone, with what came to it in boxes
+  pub mailed : let i = image_of v in (d : ℕ) → IsDomain i d
+      → view_whole i d n ≡ view_mailed i.all (own_of i d) d (arrivals d (whole i n)) n
   unfolding view_on view_whole
-  alone d is =
+  mailed d is =
+      let i = image_of v in
+      let s = harts i has.order in
+      let first = one_hart i has.one in
+      let one = same None v n has in
+      let apart =
+      subst (λ (h : ℕ). IsBetween i h s → view_on i d s ≡ view_mailed_on i d (arrivals d s.world) (slots_of h s)) (first.home d)
+      (hart_mail i d has.order has.accepted is has.of_harts)
+      (hart_between i 0 has.order has.accepted has.of_harts (first_there None v n has) has.outside) in
+      ap₂ (view i.all.hardware (own_of i d)) (one.doms d) one.storage
+      ∙ apart
+      ∙ ap₂ (view_mailed_on i d) (ap (arrivals_in d) (sym one.came)) has.had
+      ∙ first.mailed d (arrivals d (whole i n)) n
+
+  -- and where no box leads to it, with nothing
+  pub alone : let i = image_of v in (d : ℕ) → IsDomain i d → HasNoMail i d
+      → view_whole i d n ≡ view_alone i.all (own_of i d) d n
+  unfolding view_on view_whole
+  alone d is none =
       let i = image_of v in
       let s = harts i has.order in
       let first = one_hart i has.one in
       let one = same None v n has in
       let apart =
       subst (λ (h : ℕ). IsBetween i h s → view_on i d s ≡ view_alone_on i d (slots_of h s)) (first.home d)
-      (hart_isolation i d has.order has.accepted is has.of_harts)
+      (hart_isolation i d has.order has.accepted is none has.of_harts)
       (hart_between i 0 has.order has.accepted has.of_harts (first_there None v n has) has.outside) in
       ap₂ (view i.all.hardware (own_of i d)) (one.doms d) one.storage
       ∙ apart
       ∙ ap (view_alone_on i d) has.had
-      ∙ first.alone d n
+      ∙ first.mailed d [] n

@@ -33,7 +33,8 @@ impl<'a> Machine<'a> {
     ghost use Rattle.sched_table.specs.Schedule.{entry_in};
     ghost use Rattle.image_check.specs.Image.{image_from, own_of};
     ghost use Rattle.world_view.specs.Machine as spec;
-    ghost use Rattle.world_view.specs.View.{view_whole, view_alone};
+    ghost use Rattle.world_view.specs.View.{view_whole, view_mailed, view_alone};
+    ghost use Rattle.world_view.specs.Relations.{HasNoMail};
     ghost use Rattle.world_view.specs.Harts.{IsOnOneHart};
     ghost use Rattle.domain_view.specs.Models.{view_model};
     ghost use Rattle.world_view.specs.Used.{largest_of, count_of};
@@ -96,11 +97,13 @@ impl<'a> Machine<'a> {
     }
 
     /// What is seen of a domain after the slots that have run: what is seen of it
-    /// alone after them.
+    /// alone after them, with what came to it in boxes: where no box leads to it, nothing.
     pub fn view(&self, d: u8) -> View<'_>
         requires domain { d < length (image_of self.now).owns }
         ensures view { view_model result ≡ view_whole (image_of self.now) d self.now.slots }
-        ensures alone { view_model result
+        ensures mailed { view_model result ≡ view_mailed (image_of self.now).all (own_of (image_of self.now) d) d
+            (spec.arrivals d (world_of self.now)) self.now.slots }
+        ensures alone { HasNoMail (image_of self.now) d → view_model result
             ≡ view_alone (image_of self.now).all (own_of (image_of self.now) d) d self.now.slots }
     {
         self.harts.view(d)

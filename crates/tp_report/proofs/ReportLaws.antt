@@ -2,16 +2,16 @@
 use Rattle.std.proofs.Common.{◌≡◌, ℕ, zero, suc, ◌+◌, ◌<◌, List, [], ◌∷◌, ◌++◌, length, ap, ap₂, refl, arith}
 use Rattle.std.specs.List.{concat, flat_map, range_with_len}
 use Rattle.image_check.specs.Image.{Image, own_of}
-use Rattle.world_view.specs.Machine.{World}
+use Rattle.world_view.specs.Machine.{World, arrivals}
 use Rattle.world_view.specs.View.{View, view_in}
 use Rattle.tp_report.specs.Texts.{section}
 use Rattle.world_view.specs.Used.{largest_of}
 use Rattle.tp_report.specs.Laws.{ReportLaw, LinesLaw}
 use Rattle.tp_report.specs.Report.{switch_text, section_of, sections, switch_lines, end_text, report_with, report_of}
 use Rattle.world_view.specs.Relations.{IsDomain}
-use Rattle.world_view.specs.Harts.{hart_of_domain, slots_of, harts, view_on, view_alone_on}
+use Rattle.world_view.specs.Harts.{hart_of_domain, slots_of, harts, view_on, view_mailed_on}
 use Rattle.world_view.proofs.harts.Runs.{home}
-use Rattle.world_view.proofs.harts.Isolation.{hart_isolation, hart_largest}
+use Rattle.world_view.proofs.harts.Isolation.{hart_mail, hart_largest}
 
 -- texts of numbers in turn are the same where each is
 same_texts : (f g : ℕ → List ℕ) (a n : ℕ) → ((x : ℕ) → x < a + n → f x ≡ g x)
@@ -38,8 +38,8 @@ pub reported_apart : ReportLaw
 unfolding view_on
 reported_apart i order r below between =
     let s = harts i order in
-    same_report i r.counted s.world (λ d. view_alone_on i d (slots_of (hart_of_domain i d) s))
-    (λ d is. hart_isolation i d order r is below (between (hart_of_domain i d) (home i r d)))
+    same_report i r.counted s.world (λ d. view_mailed_on i d (arrivals d s.world) (slots_of (hart_of_domain i d) s))
+    (λ d is. hart_mail i d order r is below (between (hart_of_domain i d) (home i r d)))
 
 pub says_within : LinesLaw
 unfolding switch_text

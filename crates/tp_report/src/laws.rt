@@ -14,7 +14,7 @@ ghost use Rattle.tp_report.specs.Demo.{demo_head, demo_domain};
 ghost use Rattle.tp_report.specs.Laws.{ReportLaw, LinesLaw};
 
 /// After every order of the harts' events after which none is in a slot, the report's
-/// sections are those of each domain alone.
+/// sections are those of each domain alone, with what came to it in boxes.
 pub fn isolation()
     ensures reported { ReportLaw }
 {}

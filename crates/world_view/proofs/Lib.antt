@@ -6,4 +6,5 @@ pub mod time
 pub mod opening
 pub mod runs
 pub mod harts
+pub mod mail
 pub mod interrupts

@@ -3,7 +3,7 @@ use Rattle.std.specs.Prelude.{ℕ, ◌+◌, ◌*◌, ◌/◌, ◌%◌, ◌==◌,
 use Rattle.std.proofs.Common.{inl, inr}
 use Rattle.tp_base.specs.Act as act
 use Rattle.tp_base.specs.Act.{◌>>=◌, ◌>>◌, Done, give, stop, note, either}
-use Rattle.phys_mem.specs.Mem.{Mem, word, written}
+use Rattle.phys_mem.specs.Mem.{word, written}
 use Rattle.phys_mem.specs.Bytes.{byte_in, half_in, with_byte_in, with_half_in}
 use Rattle.rv_decode.specs.Table.{decode_of}
 use Rattle.rv_decode.specs.declared.Instr.{Instr}
@@ -34,15 +34,13 @@ use Rattle.thread_set.specs.Threads.{is_ready}
 use Rattle.kernel_clone.specs.Footprints.{Layout, delivery_op}
 use Rattle.call_table.specs.Domain.{Dom, is_running}
 use Rattle.call_table.specs.Claims.{Estate}
-use Rattle.call_table.specs.Calls.{Note, empties, work_of, call, number_made}
+use Rattle.call_table.specs.Calls.{Note, empties, work_of, number_made}
+pub use Rattle.call_table.specs.Mail.{Storage}
+use Rattle.call_table.specs.Mail.{called}
 use Rattle.world_view.specs.Instruction.{stopped, trapped, retired_at, counter_value, read_out}
 use Rattle.mem_system.specs.Cost.{Touch, Fetch, Load, Store as StoreTouch, Branch, Jump as JumpTouch, EmptyTlb, Charge}
 use Rattle.mem_system.specs.Translation.{look_of}
 use Rattle.mem_system.specs.Operations.{operation, plain}
-
--- all that domains may change beside their own state
-pub record Storage : Type 0 where
-  pub mem : Mem
 
 -- steps over the memory that note their touches, and may end early with the domain as it then is
 abbrev pub Act : Type 0 → Type 0
@@ -196,10 +194,10 @@ call_touches p l number notes =
 -- the call that the current thread makes
 unfoldable pub make_call : Hardware → Estate → Layout → Dom → Act Dom
 make_call p e l d = λ s.
-    let r = call e d s.mem in
+    let r = called e d s in
     record {
       notes = call_touches p l (number_made e d) r.notes;
-      state = record s { mem = r.state };
+      state = r.state;
       value = inr (either r.value);
     }
 

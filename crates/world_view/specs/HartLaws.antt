@@ -4,11 +4,13 @@ use Rattle.std.specs.List.{All, filter}
 use Rattle.image_check.specs.Image.{Image, own_of}
 use Rattle.image_check.specs.Laws.{Runnable}
 use Rattle.sched_table.specs.Schedule.{entry_in, harts_in}
-use Rattle.world_view.specs.Machine.{dom_of, part_of, hart_of, clock_of}
+use Rattle.world_view.specs.Mail.{turns}
+use Rattle.world_view.specs.Machine.{dom_of, part_of, hart_of, clock_of, arrivals}
 use Rattle.world_view.specs.Used.{largest_of, count_of}
-use Rattle.world_view.specs.Relations.{IsDomain, SamePart, AllWithinPads}
-use Rattle.world_view.specs.View.{view_alone}
-use Rattle.world_view.specs.Harts.{Harts, IsOnOneHart, public_on, start_on, hart_of_domain, progress_of, slots_of, switches_of, next, harts, view_on, view_alone_on}
+use Rattle.world_view.specs.Relations.{IsDomain, HasNoMail, SamePart, AllWithinPads}
+use Rattle.mail_slots.specs.Sides.{Arrival}
+use Rattle.world_view.specs.View.{view_mailed}
+use Rattle.world_view.specs.Harts.{Harts, IsOnOneHart, public_on, start_on, hart_of_domain, progress_of, slots_of, switches_of, next, harts, view_on, view_mailed_on, view_alone_on}
 
 -- each of these numbers is of a hart of the image
 abbrev pub AreHartsOf : Image → List ℕ → Type 0
@@ -19,17 +21,32 @@ abbrev pub IsBetween : Image → ℕ → Harts → Type 0
 IsBetween i h s = clock_of h s.world < start_on i h (slots_of h s)
 
 -- whatever the order of events, what is seen of a domain, where its hart has not begun its next slot, is what is seen of it
--- alone after as many slots of that hart
+-- alone after as many slots of that hart, with what came in boxes as they began
+abbrev pub HartMailLaw : Type 0
+HartMailLaw = (i : Image) (d : ℕ) (order : List ℕ) → Runnable i → IsDomain i d → AreHartsOf i order →
+    let h = hart_of_domain i d in
+    let s = harts i order in
+    IsBetween i h s → view_on i d s ≡ view_mailed_on i d (arrivals d s.world) (slots_of h s)
+
+-- that has an item for each slot of its own
+abbrev pub ArrivalsLaw : Type 0
+ArrivalsLaw = (i : Image) (d : ℕ) (order : List ℕ) → Runnable i → IsDomain i d → AreHartsOf i order →
+    let h = hart_of_domain i d in
+    let s = harts i order in
+    IsBetween i h s → length (arrivals d s.world) ≡ turns (public_on i.all h).schedule d (slots_of h s)
+
+-- where no box leads to it, alone with nothing that comes
 abbrev pub HartIsolationLaw : Type 0
-HartIsolationLaw = (i : Image) (d : ℕ) (order : List ℕ) → Runnable i → IsDomain i d → AreHartsOf i order →
+HartIsolationLaw =
+    (i : Image) (d : ℕ) (order : List ℕ) → Runnable i → IsDomain i d → HasNoMail i d → AreHartsOf i order →
     let h = hart_of_domain i d in
     let s = harts i order in
     IsBetween i h s → view_on i d s ≡ view_alone_on i d (slots_of h s)
 
 -- so two orders after which its hart has had as many slots leave it the same
 abbrev pub TwoOrdersLaw : Type 0
-TwoOrdersLaw =
-    (i : Image) (d : ℕ) (one two : List ℕ) → Runnable i → IsDomain i d → AreHartsOf i one → AreHartsOf i two →
+TwoOrdersLaw = (i : Image) (d : ℕ) (one two : List ℕ) → Runnable i → IsDomain i d → HasNoMail i d
+    → AreHartsOf i one → AreHartsOf i two →
     let h = hart_of_domain i d in
     let s = harts i one in
     let t = harts i two in
@@ -122,7 +139,7 @@ HartStaysLaw = (i : Image) (g h : ℕ) (s : Harts) → g ≢ h → HartStays g (
 pub record HasOneHart (i : Image) : Type 0 where
   pub entries : public_on i.all 0 ≡ i.all
   pub home : (d : ℕ) → hart_of_domain i d ≡ 0
-  pub alone : (d n : ℕ) → view_alone_on i d n ≡ view_alone i.all (own_of i d) d n
+  pub mailed : (d : ℕ) (came : List Arrival) (n : ℕ) → view_mailed_on i d came n ≡ view_mailed i.all (own_of i d) d came n
 
 abbrev pub OneHartLaw : Type 0
 OneHartLaw = (i : Image) → IsOnOneHart i → HasOneHart i
@@ -138,10 +155,14 @@ pub record AsFar (h : ℕ) (s t : Harts) : Type 0 where
   pub progress : progress_of h s ≡ progress_of h t
   pub clock : clock_of h s.world ≡ clock_of h t.world
 
--- how far a hart is goes by the number of its own events, whatever the others' are and in whatever order they come
+-- no box leads to a domain of a hart
+abbrev pub HasNoMailOn : Image → ℕ → Type 0
+HasNoMailOn i h = (d : ℕ) → hart_of_domain i d ≡ h → HasNoMail i d
+
+-- how far such a hart is goes by the number of its own events, whatever the others' are and in whatever order they come
 abbrev pub EventsLaw : Type 0
 EventsLaw = (i : Image) (h : ℕ) (one two : List ℕ) → Runnable i → AreHartsOf i one → AreHartsOf i two
-    → h < harts_in i.all.schedule
+    → h < harts_in i.all.schedule → HasNoMailOn i h
     → events_of h one ≡ events_of h two → AsFar h (harts i one) (harts i two)
 
 -- and so does what is seen of a domain, at each event of its hart
@@ -149,4 +170,4 @@ abbrev pub SameEventsLaw : Type 0
 SameEventsLaw =
     (i : Image) (d : ℕ) (one two : List ℕ) → Runnable i → IsDomain i d → AreHartsOf i one → AreHartsOf i two →
     let h = hart_of_domain i d in
-    events_of h one ≡ events_of h two → view_on i d (harts i one) ≡ view_on i d (harts i two)
+    HasNoMailOn i h → events_of h one ≡ events_of h two → view_on i d (harts i one) ≡ view_on i d (harts i two)

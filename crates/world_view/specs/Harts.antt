@@ -7,7 +7,8 @@ use Rattle.image_check.specs.Image.{Image, own_of}
 use Rattle.sched_table.specs.Schedule.{entry_of_slot, switch_entry, start, slot_end, on_hart, place_on, harts_in, hart_for}
 use Rattle.guards.specs.declared.Guard.{Guard}
 use Rattle.world_view.specs.Machine.{Local, World, Guards, guards_of, clock_of, ended_of, part_of, with_end, ends_by, switch_on, cycles_on, noted, event_if, no_harts, with_cold}
-use Rattle.world_view.specs.View.{View, view_in, view_alone}
+use Rattle.mail_slots.specs.Sides.{Arrival}
+use Rattle.world_view.specs.View.{View, view_in, view_mailed}
 
 -- ---- a hart's own entries
 
@@ -154,6 +155,10 @@ slot_end_on i h s = end_on i h (slots_of h s)
 unfoldable pub view_on : Image → ℕ → Harts → View
 view_on i d s = view_in i d s.world
 
--- the same domain alone, by the entries of its hart
-unfoldable pub view_alone_on : Image → ℕ → ℕ → View
-view_alone_on i d k = view_alone (public_on i.all (hart_of_domain i d)) (own_of i d) d k
+-- the same domain alone, by the entries of its hart, where this came in boxes as its slots began
+unfoldable pub view_mailed_on : Image → ℕ → List Arrival → ℕ → View
+view_mailed_on i d came k = view_mailed (public_on i.all (hart_of_domain i d)) (own_of i d) d came k
+
+-- and where nothing came
+abbrev pub view_alone_on : Image → ℕ → ℕ → View
+view_alone_on i d k = view_mailed_on i d [] k

@@ -21,19 +21,22 @@ use Rattle.call_table.specs.Laws.{found_at}
 use Rattle.call_table.specs.Rights.{MayReach}
 use Rattle.world_view.specs.Kernel.{estate, layout, frames_for_good}
 use Rattle.guards.specs.declared.Guard.{Guard}
-use Rattle.world_view.specs.Machine.{caches_of, clock_of, hart_of, setting, Local, World, step, dom_of, part_of, with_part, clone_of, leave_part, enter_part, prefetch_part, flush_part, switch_work, whole, guards_of, whole_by, alone_enter, alone_out}
+use Rattle.world_view.specs.Machine.{caches_of, clock_of, hart_of, setting, Local, World, step, dom_of, part_of, with_part, clone_of, leave_part, enter_part, prefetch_part, flush_part, switch_work, guards_of, whole_by, alone_enter, alone_out}
 use Rattle.image_check.specs.Laws.{Runnable}
-use Rattle.world_view.specs.Relations.{IsDomain, IsOwnFrame, Agree, SameSets, SamePart, Resident, KeepsSharedAlone, OwnDirty, KernelIsClean, IsKernel, AreParties, IsForGood, HasFacts, HasRights, ReachesOwn, Beside, Within, Apiece, Untouched, InTime}
+use Rattle.mail_slots.specs.Sides.{Arrival, arrival}
+use Rattle.world_view.specs.Mail.{left_boxes}
+use Rattle.world_view.specs.Relations.{IsDomain, HasNoMail, IsOwnFrame, Agree, SameSets, SamePart, Resident, KeepsSharedAlone, OwnDirty, KernelIsClean, IsKernel, AreParties, IsForGood, HasFacts, HasRights, ReachesOwn, Beside, Within, Apiece, Untouched, InTime}
 use Rattle.world_view.specs.Harts.{Harts, IsOnOneHart, IsInSlot, IsOutside, public_on, image_on, domain_in, domain_on, owner_on, start_on, slot_end_on, hart_of_domain, slots_of, switches_of, next, harts, harts_by, view_on}
 use Rattle.world_view.specs.HartLaws.{AreHartsOf, IsBetween}
 
 -- ---- isolation
 
--- what is seen of a domain goes by what all may know and by its own part, whatever the other domains are and whatever the order
--- of events: in two runs after which its hart has had as many slots, and has not begun the next, it is the same
+-- where no box leads to a domain, what is seen of it goes by what all may know and by its own part, whatever the other domains
+-- are and whatever the order of events: in two runs after which its hart has had as many slots, and has not begun the next, it is
+-- the same
 abbrev pub TwoRunLaw : Type 0
 TwoRunLaw =
-    (i j : Image) (d : ℕ) (one two : List ℕ) → Runnable i → Runnable j → IsDomain i d → Agree i j d
+    (i j : Image) (d : ℕ) (one two : List ℕ) → Runnable i → Runnable j → IsDomain i d → HasNoMail i d → Agree i j d
     → AreHartsOf i one → AreHartsOf j two →
     let h = hart_of_domain i d in
     let s = harts i one in
@@ -42,13 +45,15 @@ TwoRunLaw =
 
 -- ---- one hart
 
--- equal in each part: each domain's state, memory, the caches and the clock of hart 0, and what switches took, in their order
+-- equal in each part: each domain's state, memory and boxes, the caches and the clock of hart 0, and what switches took and what
+-- came in boxes, in their order
 pub record SameWorld (w v : World) : Type 0 where
   pub doms : (d : ℕ) → dom_of w d ≡ dom_of v d
   pub storage : w.storage ≡ v.storage
   pub caches : caches_of 0 w ≡ caches_of 0 v
   pub clock : clock_of 0 w ≡ clock_of 0 v
   pub used : w.used ≡ v.used
+  pub came : w.came ≡ v.came
 
 -- where an image has one hart, the machine that goes from slot to slot is the one that goes from event to event, with all
 -- guards on and with any one off
@@ -294,6 +299,10 @@ BootWorkLaw = (i : Image) (e : ℕ) (c : Caches) →
 abbrev pub leaves_on : Image → ℕ → Harts → Option ℕ
 leaves_on i h s = outgoing (image_on i h).all.schedule (slots_of h s)
 
+-- what waits for d then
+abbrev pub comes_to : Image → ℕ → ℕ → Harts → Arrival
+comes_to i h d s = arrival d (left_boxes (leaves_on i h s) s.world.storage.boxes)
+
 -- a hart's switch from d to another
 abbrev pub SwitchOutLaw : Type 0
 SwitchOutLaw = OnEachHart (λ i h s. (d : ℕ) (a : Local) → IsDomain i d → IsOutside h s
@@ -307,7 +316,7 @@ SwitchInLaw = OnEachHart (λ i h s. (d : ℕ) (a : Local) → IsDomain i d → I
     → leaves_on i h s ≢ Some d → domain_on i h s ≡ d
     → Apiece i.all.hardware (own_of i d) (part_of h d s.world) a
     → Within i.all.hardware (own_of i d) (part_of h d (next i h s).world)
-    (alone_enter (public_on i.all h) (own_of i d) (slots_of h s) a))
+    (alone_enter (public_on i.all h) (own_of i d) (slots_of h s) (comes_to i h d s) a))
 
 -- from d to d
 abbrev pub SwitchBothLaw : Type 0
@@ -315,7 +324,7 @@ SwitchBothLaw = OnEachHart (λ i h s. (d : ℕ) (a : Local) → IsDomain i d →
     → leaves_on i h s ≡ Some d → domain_on i h s ≡ d
     → Within i.all.hardware (own_of i d) (part_of h d s.world) a
     → Within i.all.hardware (own_of i d) (part_of h d (next i h s).world)
-    (alone_enter (public_on i.all h) (own_of i d) (slots_of h s) (alone_out i.all.hardware (own_of i d) a)))
+    (alone_enter (public_on i.all h) (own_of i d) (slots_of h s) (comes_to i h d s) (alone_out i.all.hardware (own_of i d) a)))
 
 -- between others
 abbrev pub SwitchPastLaw : Type 0

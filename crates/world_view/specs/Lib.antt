@@ -5,6 +5,7 @@ pub mod Instruction
 pub mod Cost
 pub mod Geometry
 pub mod Event
+pub mod Mail
 pub mod Machine
 pub mod Harts
 pub mod HartLaws
@@ -13,5 +14,7 @@ pub mod View
 pub mod Seen
 pub mod Relations
 pub mod Laws
+pub mod MailLaws
+pub mod MailExample
 pub mod Interrupts
 pub mod EventLaws

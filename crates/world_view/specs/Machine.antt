@@ -1,5 +1,5 @@
 -- The whole machine, and one domain alone.
-use Rattle.std.specs.Prelude.{ℕ, zero, suc, ◌+◌, ◌-◌, ◌/◌, ◌==◌, max, nat_lt, nat_le, nat_eq, Bool, true, false, if◌then◌else◌, List, [], ◌∷◌, ◌++◌, length, take, Option, Some, None}
+use Rattle.std.specs.Prelude.{ℕ, zero, suc, ◌+◌, ◌-◌, ◌/◌, ◌==◌, max, nat_lt, nat_le, nat_eq, Bool, true, false, if◌then◌else◌, List, [], ◌∷◌, ◌++◌, take, Option, Some, None}
 use Rattle.tp_base.specs.Table.{Table, empty, at, put}
 use Rattle.tp_base.specs.Act.{Done, either}
 use Rattle.guards.specs.declared.Guard.{Guard}
@@ -21,6 +21,9 @@ use Rattle.branch_pred.specs.Guesses.{fresh_guesses}
 use Rattle.set_cache.specs.Cache.{Sets}
 use Rattle.mem_system.specs.Cost.{Touch, EmptyTlb, Flush, Core, Caches, fresh_core, cold, Touched, at_no_cost, and_then, touched, touched_all}
 use Rattle.mem_system.specs.Operations.{leave, enter, prefetch}
+use Rattle.mail_slots.specs.Boxes as mail
+use Rattle.mail_slots.specs.Sides.{Arrival, bring}
+use Rattle.world_view.specs.Mail.{Came, arrivals_in, switched_boxes, came_to, turns, nth_of}
 use Rattle.world_view.specs.Cost.{hierarchy, region}
 use Rattle.world_view.specs.Event.{Storage, instruction, delivery_touches, Event, event, interrupts_of}
 use Rattle.world_view.specs.Event.Event.{Jump, Deliver, Run}
@@ -206,13 +209,14 @@ no_hart = record {
   ended = 0;
 }
 
--- memory and the second level are of all harts
+-- memory, boxes and the second level are of all harts
 pub record World : Type 0 where
   pub doms : Table Dom
   pub storage : Storage
   pub l2 : Sets
   pub harts : Table Hart
   pub used : List (ℕ × ℕ)  -- for each switch its entry, and the cycles from the ended slot's end to the end of its work
+  pub came : List Came  -- for each switch what came in boxes as its slot began: no machine stores it
 
 abbrev pub dom_of : World → ℕ → Dom
 dom_of w d = at no_dom w.doms d
@@ -264,11 +268,23 @@ abbrev pub work_on : Guards → Image → ℕ → ℕ → World → Touched
 work_on g i h k w =
     switch_work_by g i (outgoing i.all.schedule k) (entry_of_slot i.all.schedule k).domain (caches_of h w)
 
--- its work, and then the wait
+-- what was put in by who leaves goes off, and what waits for who enters comes in
+abbrev pub with_mail : Option ℕ → ℕ → World → World
+with_mail out d w = record w {
+  storage = record w.storage { boxes = switched_boxes out d w.storage.boxes };
+  came = w.came ++ came_to out d w.storage.boxes ∷ [];
+}
+
+-- its work, and then the wait; words in boxes move at no cost
 unfoldable pub switch_on : Guards → Image → ℕ → ℕ → World → World
 switch_on g i h k w =
     let r = work_on g i h k w in
-    with_hart h w r.caches (begins_by g i k (clock_of h w + r.cost))
+    with_hart h (with_mail (outgoing i.all.schedule k) (entry_of_slot i.all.schedule k).domain w) r.caches
+    (begins_by g i k (clock_of h w + r.cost))
+
+-- for each slot of domain d that has begun, in order, what it began with
+abbrev pub arrivals : ℕ → World → List Arrival
+arrivals d w = arrivals_in d w.came
 
 -- the cycles from the ended slot's end to the end of its work
 abbrev pub cycles_on : Guards → Image → ℕ → ℕ → World → ℕ
@@ -370,10 +386,11 @@ domains_of i = take i.all.domains i.owns
 abbrev pub no_harts : Image → World
 no_harts i = record {
   doms = opening_doms i.all.hardware (domains_of i) 0;
-  storage = record { mem = all_placed i.all.hardware (domains_of i) };
+  storage = record { mem = all_placed i.all.hardware (domains_of i); boxes = mail.opening i.all.mail };
   l2 = empty;
   harts = empty;
   used = [];
+  came = [];
 }
 
 -- a hart whose caches hold nothing, at clock 0
@@ -402,37 +419,52 @@ whole i = whole_by (guarded i) i
 abbrev pub whole_off : Guard → Image → ℕ → World
 whole_off off i = whole_by (without off i) i
 
--- ---- the domain alone: one domain, its own frames, and nobody else to switch from or to
+-- ---- the domain alone: one domain, its own frames, and nobody else to switch from or to; what comes to it in boxes is given
 
-unfoldable pub alone_opening : Hardware → Own → Local
+unfoldable pub alone_opening : Public → Own → Local
 alone_opening p o = record {
-  dom = opening_dom p o;
-  storage = record { mem = placed p o empty };
-  caches = cold (hierarchy p);
+  dom = opening_dom p.hardware o;
+  storage = record { mem = placed p.hardware o empty; boxes = mail.opening p.mail };
+  caches = cold (hierarchy p.hardware);
   clock = 0;
 }
 
--- slot k begins: on-core state is fresh, the clock stands at its start, and enter isn't charged
-unfoldable pub alone_enter : Public → Own → ℕ → Local → Local
-alone_enter p o k s =
+-- slot k begins, and these words come in: on-core state is fresh, the clock stands at its start, and enter isn't charged
+unfoldable pub alone_enter : Public → Own → ℕ → Arrival → Local → Local
+alone_enter p o k words s =
     let h = hierarchy p.hardware in
     let r = enter_part h true (layout p.hardware o) (record s.caches { core = fresh_core h }) in
-    record s { caches = r.caches; clock = start p.schedule k }
+    record s {
+      storage = record s.storage { boxes = bring words s.storage.boxes };
+      caches = r.caches;
+      clock = start p.schedule k;
+    }
 
 -- slot k up to its end
-unfoldable pub alone_in : Public → Own → ℕ → Local → Local
-alone_in p o k s = stretch (setting p.hardware o true) (slot_end p.schedule k) (alone_enter p o k s)
+unfoldable pub alone_in : Public → Own → ℕ → Arrival → Local → Local
+alone_in p o k words s =
+    stretch (setting p.hardware o true) (slot_end p.schedule k) (alone_enter p o k words s)
 
--- leave isn't charged either; nor is the flush, which writes its dirty lines back
+-- leave isn't charged either; nor is the flush, which writes its dirty lines back. What it put in goes off
 unfoldable pub alone_out : Hardware → Own → Local → Local
 alone_out p o s =
     let left = leave_part (hierarchy p) true p.costs (layout p o) s.caches in
-    record s { caches = (flush_part (hierarchy p) true left.caches).caches }
+    record s {
+      storage = record s.storage { boxes = mail.ends o.number s.storage.boxes };
+      caches = (flush_part (hierarchy p) true left.caches).caches;
+    }
 
-unfoldable pub alone_if : Public → Own → ℕ → Local → Bool → Local
-alone_if p o k s true = alone_out p.hardware o (alone_in p o k s)
-alone_if p o k s false = s
+unfoldable pub alone_if : Public → Own → ℕ → Arrival → Local → Bool → Local
+alone_if p o k words s true = alone_out p.hardware o (alone_in p o k words s)
+alone_if p o k words s false = s
 
-unfoldable pub alone : Public → Own → ℕ → ℕ → Local
-alone p o d zero = alone_opening p.hardware o
-alone p o d (suc k) = alone_if p o k (alone p o d k) ((entry_of_slot p.schedule k).domain == d)
+-- each slot of its own begins with what the list has for it
+unfoldable pub alone_mail : Public → Own → ℕ → List Arrival → ℕ → Local
+alone_mail p o d came zero = alone_opening p o
+alone_mail p o d came (suc k) =
+    alone_if p o k (nth_of came (turns p.schedule d k)) (alone_mail p o d came k)
+    ((entry_of_slot p.schedule k).domain == d)
+
+-- nothing comes in
+abbrev pub alone : Public → Own → ℕ → ℕ → Local
+alone p o d k = alone_mail p o d [] k

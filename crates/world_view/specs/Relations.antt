@@ -1,4 +1,7 @@
 -- The words of the laws: what is alike for a domain, in two states of machines, and what the kernel has of it.
+use Rattle.std.specs.List.{All}
+use Rattle.mail_slots.specs.Boxes.{Boxes}
+use Rattle.mail_slots.specs.Sides.{own_side, others_side}
 use Rattle.std.specs.Prelude.{◌≡◌, ◌≢◌, ℕ, Bool, false, IsTrue, ◌<◌, ◌≤◌, ◌+◌, List, [], ◌∷◌, length, Option, Some, None}
 use Rattle.phys_mem.specs.Mem.{Mem, frame_at}
 use Rattle.kernel_clone.specs.Footprints.{IsLayout}
@@ -29,6 +32,10 @@ use Rattle.world_view.specs.Machine.{caches_of, clock_of, Local, World, dom_of, 
 
 abbrev pub IsDomain : Image → ℕ → Type 0
 IsDomain i d = d < length i.owns
+
+-- no box leads to the domain
+abbrev pub HasNoMail : Image → ℕ → Type 0
+HasNoMail i d = All (λ box. box.1 ≢ d) i.all.mail
 
 -- what the bound on a switch out of a domain's slot depends on
 abbrev pub own_shape : Hardware → Own → MachineShape
@@ -65,9 +72,14 @@ SameFrames p o m k = (f : ℕ) → IsOwnFrame p o f → frame_at m f ≡ frame_a
 abbrev pub SameSets : Hardware → Own → Caches → Caches → Type 0
 SameSets p o c k = sharing.SameSets (hierarchy p) (own_colour o) c.l2 k.l2
 
--- equal in both
+-- equal in what the domain put into boxes and in what it may take
+abbrev pub SameSide : Own → Boxes → Boxes → Type 0
+SameSide o boxes others = own_side o.number boxes ≡ own_side o.number others
+
+-- equal in all three
 pub record SamePart (p : Hardware) (o : Own) (s a : Local) : Type 0 where
   pub frames : SameFrames p o s.storage.mem a.storage.mem
+  pub side : SameSide o s.storage.boxes a.storage.boxes
   pub sets : SameSets p o s.caches a.caches
 
 -- all lines that the domains share are in the second level
@@ -130,10 +142,13 @@ ReachesOwn p o d s = HasPageTables (estate p o) d s.mem
 
 -- ---- the whole machine beside the domain alone, within its slot
 
--- memory: equal in the domain's frames; outside them the whole machine's is still as at first
+-- memory: equal in the domain's frames; outside them the whole machine's is still as at first. Boxes: equal in the domain's side
+-- of them; all else of them is as at first
 pub record BesideStorage (p : Hardware) (o : Own) (first s a : Storage) : Type 0 where
   pub same : SameFrames p o s.mem a.mem
   pub outside : (f : ℕ) → own_frame p o f ≡ false → frame_at s.mem f ≡ frame_at first.mem f
+  pub side : SameSide o s.boxes a.boxes
+  pub others : others_side o.number s.boxes ≡ others_side o.number first.boxes
 
 -- the caches likewise
 abbrev pub BesideCaches : Hardware → Own → Caches → Caches → Caches → Type 0

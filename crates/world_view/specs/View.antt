@@ -1,5 +1,5 @@
 -- What can be seen of a domain: its state, and the words of its pool.
-use Rattle.std.specs.Prelude.{ℕ, ◌%◌, ◌^◌, List, map, sum}
+use Rattle.std.specs.Prelude.{ℕ, ◌%◌, ◌^◌, List, [], map, sum}
 use Rattle.std.specs.List.{concat}
 use Rattle.thread_set.specs.declared.Thread.{Thread}
 use Rattle.thread_set.specs.Threads.{all_of}
@@ -16,7 +16,8 @@ use Rattle.phys_mem.specs.Mem.{frame_at}
 use Rattle.world_view.specs.Opening.{frame_words}
 use Rattle.world_view.specs.Event.{Storage}
 use Rattle.guards.specs.declared.Guard.{Guard}
-use Rattle.world_view.specs.Machine.{World, whole, whole_off, dom_of, alone}
+use Rattle.mail_slots.specs.Sides.{Arrival}
+use Rattle.world_view.specs.Machine.{World, whole, whole_off, dom_of, alone_mail}
 
 pub record View : Type 0 where
   pub status : DomainStatus
@@ -52,9 +53,13 @@ view_whole i d n = view_in i d (whole i n)
 unfoldable pub view_off : Guard → Image → ℕ → ℕ → View
 view_off off i d n = view_in i d (whole_off off i n)
 
--- the same domain alone, from the public part and its own
-unfoldable pub view_alone : Public → Own → ℕ → ℕ → View
-view_alone p o d n = let s = alone p o d n in view p.hardware o s.dom s.storage
+-- the same domain alone, from the public part and its own, where this came in boxes as its slots began
+unfoldable pub view_mailed : Public → Own → ℕ → List Arrival → ℕ → View
+view_mailed p o d came n = let s = alone_mail p o d came n in view p.hardware o s.dom s.storage
+
+-- and where nothing came
+abbrev pub view_alone : Public → Own → ℕ → ℕ → View
+view_alone p o d n = view_mailed p o d [] n
 
 -- the sum of all words of the pool, modulo 2^32
 unfoldable pub memory_sum : List (List ℕ) → ℕ

@@ -1,8 +1,9 @@
 //! Laws of the machine over its definitions, each the contract of a function
 //! that does nothing: a caller that calls it may rely on the law.
 ghost use Rattle.world_view.specs.EventLaws.{StepTouchesLaw, OwnTouchesLaw, SlotTouchesLaw, StepCostLaw, PlainCostLaw, SlotCostLaw, SlotStepLaw};
-ghost use Rattle.world_view.specs.HartLaws.{HartIsolationLaw, TwoOrdersLaw, HartPadLaw, HartLargestLaw, HartCountLaw, OtherHartsLaw, NextLaw, HartBetweenLaw, HartBegunLaw, HartStartLaw, HartRiseLaw, HartSlotsLaw, HartStaysLaw, OneHartLaw, EventsLaw, SameEventsLaw};
+ghost use Rattle.world_view.specs.HartLaws.{HartMailLaw, ArrivalsLaw, HartIsolationLaw, TwoOrdersLaw, HartPadLaw, HartLargestLaw, HartCountLaw, OtherHartsLaw, NextLaw, HartBetweenLaw, HartBegunLaw, HartStartLaw, HartRiseLaw, HartSlotsLaw, HartStaysLaw, OneHartLaw, EventsLaw, SameEventsLaw};
 ghost use Rattle.world_view.specs.Interrupts.{DueLaw, PromptLaw, FewLaw, AscendLaw, OwnSlotsLaw, TurnLaw, WakeLaw};
+ghost use Rattle.world_view.specs.MailLaws.{WaitsLaw, KeptLaw, ArrivesLaw, NothingElseLaw, SendersLaw, OneWayLaw};
 ghost use Rattle.world_view.specs.Laws.{TwoRunLaw, WholeLaw, InTimeLaw, ClockLaw, OpeningPageLaw, OpeningRightsLaw, OpeningNoPageLaw, OpeningFramesLaw, OpeningZeroLaw, OpeningElsewhereLaw, PoolsApartLaw, KernelColourLaw, PoolPartsLaw, FactsLaw, ReachLaw, NoAccessFaultLaw, RightsLaw, PermittedLaw, KernelLaw, PartiesLaw, PartiesSwapLaw, PartyFramesLaw, OthersStepLaw, OthersLeaveLaw, OthersEnterLaw, PrefetchLaw, FlushLaw, OthersEventLaw, OtherHartLaw, OwnHartLaw, OwnStepLaw, SwitchWorkLaw, BootWorkLaw, SwitchOutLaw, SwitchInLaw, SwitchBothLaw, SwitchPastLaw, ResidencyLaw, ForGoodLaw, EmptyLaw, AfterSwitchLaw, SwitchAloneLaw, AloneLaw, SettledLaw, SwitchCleanLaw, CleanLaw, SlotDirtyLaw};
 
 /// Whatever the order of the harts' events: where a domain's hart has not begun its next
@@ -10,6 +11,8 @@ ghost use Rattle.world_view.specs.Laws.{TwoRunLaw, WholeLaw, InTimeLaw, ClockLaw
 /// hart, whatever the other domains are. So two orders after which the hart has had as
 /// many slots show the same, of one image or of two that agree for the domain.
 pub fn isolation()
+    ensures mailed { HartMailLaw }
+    ensures arrivals { ArrivalsLaw }
     ensures isolated { HartIsolationLaw }
     ensures two_orders { TwoOrdersLaw }
     ensures two_runs { TwoRunLaw }
@@ -144,6 +147,21 @@ pub fn orders()
     ensures same_events { SameEventsLaw }
     ensures one { OneHartLaw }
     ensures whole { WholeLaw }
+{}
+
+/// Boxes, for every order of the harts' events. What waits in a box is what its sender
+/// had put in as a slot of it ended, the last one with which something went off; and what
+/// went off waits, until a slot of the receiver begins. That begins with what goes off in
+/// the same event, else with what waited: so it comes once. In no other event anything
+/// comes to a domain. On one hart what is seen of a domain goes by those alone from whom
+/// a chain of boxes leads to it; so nothing comes back to a sender.
+pub fn boxes()
+    ensures waits { WaitsLaw }
+    ensures kept { KeptLaw }
+    ensures arrives { ArrivesLaw }
+    ensures nothing_else { NothingElseLaw }
+    ensures senders { SendersLaw }
+    ensures one_way { OneWayLaw }
 {}
 
 /// A domain's own step does the same among others and alone, at equal cost.

@@ -43,10 +43,14 @@ pub enum Error {
     OutputFull = 11,
     InUse = 12,
     NoThread = 13,
+    /// The box is not from this domain ([`send`]), or not to it ([`recv`]).
+    NoBox = 14,
+    BoxFull = 15,
+    NoMail = 16,
 }
 
 impl Error {
-    const ALL: [Self; 13] = [
+    const ALL: [Self; 16] = [
         Self::BadCall,
         Self::BadSlot,
         Self::Empty,
@@ -60,6 +64,9 @@ impl Error {
         Self::OutputFull,
         Self::InUse,
         Self::NoThread,
+        Self::NoBox,
+        Self::BoxFull,
+        Self::NoMail,
     ];
 }
 
@@ -182,6 +189,18 @@ pub fn signal(slot: u32) -> Result<(), Error> {
 /// The domain's next thread that is ready runs.
 pub fn yield_now() {
     let _ = unsafe { call(13, 0, 0, 0) };
+}
+
+/// Puts a word into a box of the image's `mail`, by its place there from 0; it goes off as the slot
+/// ends. A slot can put in 16, whether or not the receiver has taken earlier ones.
+pub fn send(at: u32, word: u32) -> Result<(), Error> {
+    unsafe { call(19, at, word, 0) }.map(drop)
+}
+
+/// Takes the first word that is left in a box. Words come in as a slot begins, in the place of those
+/// that were not taken.
+pub fn recv(at: u32) -> Result<u32, Error> {
+    unsafe { call(20, at, 0, 0) }
 }
 
 /// Starts a thread that runs a function on a stack of its own, and ends as it returns; answers

@@ -11,6 +11,8 @@ from tp_sdk.bounds import Bound, parse_bound
 from tp_sdk.explain import explain_all
 from tp_sdk.explain_bound import BoundTold
 from tp_sdk.faults import EXIT_CODES, STANDARD, read_bytes, read_text
+from tp_sdk.images import values_of
+from tp_sdk.mail import OpenOrders
 from tp_sdk.refusals import Refusal
 from tp_sdk.schema import image_schema
 
@@ -21,6 +23,9 @@ _HELP = """Tells in a sentence where an image breaks a rule, what stands there, 
   ./tp bound < mine.toml | tp-explain mine.toml
       what each part of the bound on a switch is of, and which calls of an entry's domain make it what
       it is; whether each pad is enough
+
+Of an accepted image of several harts it names the boxes for which it isn't the schedule alone that
+orders the switches by which words go off and come in, with the entries and the cycles.
 
 The program tells the first rule that an image breaks; what else is broken comes after it, marked
 'also', as far as it can be told."""
@@ -61,7 +66,7 @@ def main(words: list[str]) -> int:
 def _tell_refusal(asked: Namespace, line: str) -> None:
     text = read_bytes(asked.image)
     if line.strip() == "accepted":
-        print("accepted: no rule is broken")
+        _tell_accepted(asked, text)
         return
     told, *others = explain_all(text, str(asked.image), Refusal.parse(line))
     if asked.json:
@@ -72,6 +77,12 @@ def _tell_refusal(asked: Namespace, line: str) -> None:
         print(other.sentence(also=True))
     if len(others) > _MOST_OTHERS:
         print(f"{asked.image}: and {len(others) - _MOST_OTHERS} more")
+
+
+def _tell_accepted(asked: Namespace, text: bytes) -> None:
+    file = str(asked.image)
+    told = OpenOrders(values_of(text.decode(errors="replace"), asked.image), file)
+    print("\n".join(["accepted: no rule is broken", *(f"{file}: {it}" for it in told.sentences())]))
 
 
 def _tell_bound(asked: Namespace, bound: Bound) -> None:

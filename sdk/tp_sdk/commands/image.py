@@ -4,6 +4,7 @@ from __future__ import annotations
 
 import json
 import sys
+import tomllib
 from argparse import ArgumentParser, RawDescriptionHelpFormatter
 from pathlib import Path
 
@@ -11,6 +12,7 @@ from tp_sdk.build import build_text, set_moments, set_words
 from tp_sdk.description import read_description
 from tp_sdk.description_schema import description_schema
 from tp_sdk.faults import EXIT_CODES, STANDARD, Fault, Missing, write_bytes
+from tp_sdk.mail import OpenOrders
 from tp_sdk.program import Program
 from tp_sdk.progress import Progress, progress
 
@@ -39,12 +41,17 @@ _HELP = """Makes an image from a short description in TOML:
   pad = 6150                    left out: what `tp bound` says, in version 2 of this entry
   hart = 1                      which hart runs it; left out: 0
 
+  [[mail]]                      a box into which one may put words, and another take them
+  from = "driver"               by names, or by places
+  to = "log"
+
 An image's own keys may stand in it, too: the machine's in the place of `machine`, `entry` and
 `segment` in that of `program`. So every image is a description.
 
 Segments and their rights are those of the ELF file's program headers, each named after its
 first section. The program is looked for where the variable TP says, else where ./tp --prove builds
-it; it computes pads and must accept the image."""
+it; it computes pads and must accept the image. Where an image has several harts, standard error names the
+boxes for which the schedule alone doesn't tell which words come in."""
 
 
 def main(words: list[str]) -> int:
@@ -89,13 +96,21 @@ def main(words: list[str]) -> int:
     set_words(description, asked.set)
     set_moments(description, asked.moments)
     with progress("tp-image") as shown:
-        image = build_text(description, _program(shown)).encode()
+        text = build_text(description, _program(shown))
+    _tell_open_orders(text, asked.description)
+    image = text.encode()
     if len(image) > MOST_BYTES:
         raise Fault(
             f"{asked.description}: the image has {len(image)} bytes, and {MOST_BYTES} are read at most"
         )
     write_bytes(asked.out, image)
     return 0
+
+
+def _tell_open_orders(text: str, description: Path) -> None:
+    """Names, beside the image, the boxes for which the order of switches isn't the schedule's."""
+    for told in OpenOrders(tomllib.loads(text), str(description)).sentences():
+        print(f"tp-image: {description}: {told}", file=sys.stderr)
 
 
 def _program(shown: Progress) -> Program | None:

@@ -17,6 +17,7 @@ from tp_sdk.images import read_image
 from tp_sdk.information import Measured, capacity, entropy, measure
 from tp_sdk.keys import VERSION, version_of
 from tp_sdk.measurements import by_pads, by_schedule, measurements_of, rows_of
+from tp_sdk.mail import Mail, boxes_in_use, boxes_of, longest_event
 from tp_sdk.memory import memory_of
 from tp_sdk.pictures import refuse_suffix
 from tp_sdk.plot_tables import write_channel, write_chart, write_memory, write_readings, write_timeline
@@ -96,7 +97,8 @@ def _timeline(asked: Namespace) -> None:
             Strip(file.name, report, _replay(program, image, report, asked.slots))
             for file, report in _reports_of_image(image, asked.reports)
         ]
-    draw_timeline(asked.out, image.names, image.entries, strips, asked.slots, _bounds(image))
+    told = _bounds(image), _mail(image)
+    draw_timeline(asked.out, image.names, image.entries, strips, asked.slots, *told)
     if asked.csv is not None:
         write_timeline(asked.csv, image.names, image.entries, strips, asked.slots)
 
@@ -120,6 +122,13 @@ def _bounds(image: _Scheduled) -> list[EntryBound]:
         raise Fault(f"{image.file}: no bound can be told of it: does 'tp check' accept it?") from None
 
 
+def _mail(image: _Scheduled) -> Mail:
+    """The boxes into which words may be put."""
+    file = str(image.file)
+    boxes = boxes_in_use(image.image, boxes_of(image.image, file))
+    return Mail(boxes, longest_event(image.image, file) if boxes else 0)
+
+
 def _replay(
     program: Program | None, image: _Scheduled, report: Report, slots: int
 ) -> tuple[Replay, ...] | None:
@@ -131,7 +140,7 @@ def _memory(asked: Namespace) -> None:
 
     image = _read_image(asked.image, Program.if_any())
     memory = memory_of(image.image, str(asked.image))
-    draw_memory(asked.out, image.names, memory)
+    draw_memory(asked.out, image.names, memory, boxes_of(image.image, str(asked.image)))
     if asked.csv is not None:
         write_memory(asked.csv, image.names, memory)
 

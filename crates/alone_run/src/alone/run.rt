@@ -6,6 +6,7 @@ use domain_step::stretch;
 use domain_switch::{enter, leave};
 use domain_view::View;
 use image_check::{Own, Public};
+use mail_slots::Mail;
 use mem_system::new_parts;
 use phys_mem::PhysMem;
 use std::alloc::Global;
@@ -36,6 +37,7 @@ impl<'a> Alone<'a> {
     {
         let schedule = schedule_for(public, d);
         let hardware = &public.hardware;
+        let mail = Mail::new(alloc, public.mail.as_slice())?;
         let mut memory = PhysMem::new(alloc, hardware.frames)?;
         let share = share_of(alloc, hardware, own)?;
         let domain = open_domain(alloc, hardware, own, share, &mut memory)?;
@@ -54,6 +56,7 @@ impl<'a> Alone<'a> {
             core,
             l2,
             domain,
+            mail,
             clock: 0,
         })
     }
@@ -86,10 +89,13 @@ impl<'a> Alone<'a> {
             &mut self.domain,
             start,
             start + u64::from(entry.length),
+            &mut self.mail,
         );
         leave(&mut self.core, &mut self.l2, &layout);
         // Its dirty lines are written back, and the next slot finds a fresh core.
         self.core.flush(&mut self.l2);
+        // What it put into boxes goes off, and nothing comes back.
+        self.mail.ends(self.domain.number);
     }
 
     /// What is seen of the domain after the slots that have passed: what the

@@ -2,6 +2,7 @@
 ghost use Rattle.std.specs.Prelude.{◌≡◌, suc, ◌+◌, ◌<◌, ◌≤◌, Some, None};
 
 use super::{HartSet, State};
+use crate::mail::switch_boxes;
 use crate::off::{begins_by, open_off, parts_off, until_off};
 use domain_open::discard as discard_opened;
 use domain_step::{note_switch, open_slot, run_until, unused};
@@ -11,6 +12,7 @@ use guards::Guard;
 use hart_orders::{Slot, cold_caches, discard as discard_cold, is_on};
 use image_check::Checked;
 use kernel_clone::CloneLayout;
+use mail_slots::Mail;
 use sched_table::{Entry, Turn};
 use std::alloc::Global;
 use tp_base::Memory;
@@ -59,7 +61,9 @@ impl<'a> HartSet<'a> {
     ghost use Rattle.std.specs.Prelude.{List, ◌++◌, ◌∷◌, [], Some, None, option_map, IfOk, IfSome};
     ghost use Rattle.kernel_clone.specs.Models.{layout_model};
     ghost use Rattle.sched_table.specs.Schedule.{harts_in, entry_in, place_on, switch_entry, outgoing};
-    ghost use Rattle.world_view.specs.Machine.{guards_of, clone_by};
+    ghost use Rattle.world_view.specs.Machine.{guards_of, clone_by, arrivals};
+    ghost use Rattle.world_view.specs.Relations.{HasNoMail};
+    ghost use Rattle.world_view.specs.HartLaws.{AreHartsOf};
     ghost use Rattle.hart_set.specs.Turns.{IsTurn};
     ghost use Rattle.image_check.specs.Image.{image_from};
     ghost use Rattle.domain_view.specs.Models.{view_model};
@@ -115,6 +119,7 @@ impl<'a> HartSet<'a> {
         image.runnable();
         let public = image.public();
         let used = unused(alloc, public.schedule.len())?;
+        let mail = Mail::new(alloc, public.mail.as_slice())?;
         let (l2, harts) = cold_caches(alloc, off, &public.hardware, public.harts.len())?;
         // What has the most parts comes last, since all before it is dropped where it fails.
         let (memory, domains) = match open_off(alloc, image, off) {
@@ -132,6 +137,7 @@ impl<'a> HartSet<'a> {
                 l2,
                 harts,
                 domains,
+                mail,
                 used,
             },
         })
@@ -267,7 +273,8 @@ impl<'a> HartSet<'a> {
         ensures over { result ≡ None → SlotEndsIn (image_of self.old) h 1 self.old.1 self.new.1 }
     {
         let turn = self.next_turn(h);
-        let out = self.outgoing(h, turn.ended);
+        let leaving = self.leaving(h, turn.ended);
+        let out = self.clone_of(leaving);
         let off = self.state.off;
         let d = usize::from(turn.entry.domain);
         let hart = &mut self.state.harts[h];
@@ -288,6 +295,7 @@ impl<'a> HartSet<'a> {
         hart.slots = slots;
         hart.slot = slot;
         hart.ended = end;
+        switch_boxes(&mut self.state.mail, leaving, domain);
         note_switch(
             self.state.used.as_mut_slice(),
             turn.place as usize,
@@ -322,6 +330,7 @@ impl<'a> HartSet<'a> {
             hart.clock,
             until,
             slot.end,
+            &mut self.state.mail,
         );
         hart.clock = ran.clock;
         if slot.end <= hart.clock {
@@ -350,6 +359,7 @@ impl<'a> HartSet<'a> {
             usize::from(slot.domain),
             hart.clock,
             slot.end,
+            &mut self.state.mail,
         );
         hart.slots += 1;
         hart.slot = None;
@@ -370,28 +380,47 @@ impl<'a> HartSet<'a> {
         self.image.public().harts[h].turn(self.state.harts[h].slots)
     }
 
-    // The kernel clone of the domain whose slot was last on a hart: nobody's before its
-    // first.
-    fn outgoing(&self, h: usize, ended: Entry) -> Option<CloneLayout>
+    // The domain whose slot was last on a hart: nobody before its first.
+    fn leaving(&self, h: usize, ended: Entry) -> Option<u8>
         requires hart { h < harts_in (image_of self.now).all.schedule }
         requires ended { AtHart self.now.1 h (λ x. ended ≡ entry_in (entries_of self.now h)
             (switch_entry (entries_of self.now h) x.slots)) }
-        ensures clone { AtHart self.now.1 h (λ x. option_map layout_model result
-            ≡ clone_by (guards_of self.now.1.off (image_of self.now)) (outgoing (entries_of self.now h) x.slots)) }
+        requires domain { ended.domain < length (image_of self.now).owns }
+        ensures domain { AtHart self.now.1 h (λ x. result ≡ outgoing (entries_of self.now h) x.slots) }
+        ensures there { IfSome result (λ d. d < length (image_of self.now).owns) }
     {
         if self.state.harts[h].slots == 0 {
             return None;
         }
-        Some(self.state.domains[usize::from(ended.domain)].layout)
+        Some(ended.domain)
+    }
+
+    // The kernel clone that works for it.
+    fn clone_of(&self, leaving: Option<u8>) -> Option<CloneLayout>
+        requires there { IfSome leaving (λ d. d < length (image_of self.now).owns) }
+        ensures clone { option_map layout_model result
+            ≡ clone_by (guards_of self.now.1.off (image_of self.now)) leaving }
+    {
+        let d = leaving?;
+        Some(self.state.domains[usize::from(d)].layout)
     }
 
     /// What is seen of a domain; with all guards on, where its hart has not begun its next
-    /// slot, that is what is seen of it alone after as many slots of its hart.
+    /// slot, that is what is seen of it alone after as many slots of its hart, with what came
+    /// to it in boxes as they began: where no box leads to it, nothing.
     pub fn view(&self, d: u8) -> View<'_>
         requires domain { d < length (image_of self.now).owns }
         ensures view { (s : Harts) → StandsFor (image_of self.now) s self.now.1
             → view_model result ≡ spec.view_on (image_of self.now) d s }
-        ensures alone { self.now.1.off ≡ None → AtHart self.now.1 (spec.hart_of_domain (image_of self.now) d)
+        ensures mailed { self.now.1.off ≡ None → (order : List ℕ) → AreHartsOf (image_of self.now) order
+            → StandsFor (image_of self.now) (spec.harts (image_of self.now) order) self.now.1
+            → AtHart self.now.1 (spec.hart_of_domain (image_of self.now) d)
+            (λ x. x.clock
+            < spec.start_on (image_of self.now) (spec.hart_of_domain (image_of self.now) d) x.slots
+            → view_model result ≡ spec.view_mailed_on (image_of self.now) d
+            (arrivals d (spec.harts (image_of self.now) order).world) x.slots) }
+        ensures alone { self.now.1.off ≡ None → HasNoMail (image_of self.now) d
+            → AtHart self.now.1 (spec.hart_of_domain (image_of self.now) d)
             (λ x. x.clock
             < spec.start_on (image_of self.now) (spec.hart_of_domain (image_of self.now) d) x.slots
             → view_model result ≡ spec.view_alone_on (image_of self.now) d x.slots) }
@@ -427,11 +456,13 @@ impl<'a> HartSet<'a> {
             l2,
             harts,
             domains,
+            mail,
             used,
             ..
         } = self.state;
         discard_cold(l2, harts);
         discard_opened(memory, domains);
+        drop(mail);
         drop(used);
     }
 }

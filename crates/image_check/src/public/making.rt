@@ -7,6 +7,7 @@ ghost use Rattle.image_record.specs.Outcomes.{Makes};
 ghost use Rattle.image_check.specs.Checking.{broken_but_pads};
 ghost use Rattle.image_check.specs.Public as spec;
 ghost use Rattle.schedule_check.specs.Schedule.{entry_of};
+ghost use Rattle.schedule_check.specs.Mail.{box_of};
 ghost use Rattle.hardware_check.specs.Hardware.{hardware_of as spec_hardware_of};
 ghost use Rattle.image_check.specs.Models.{hardware_model, public_model};
 
@@ -16,7 +17,7 @@ use hardware_check::Hardware;
 use image_record::Raw;
 use sched_table::{Entry, HartSchedule, Schedule, hart_schedules};
 use std::alloc::Global;
-use tp_base::Memory;
+use tp_base::{DomainNo, Memory};
 
 fn schedule_of(alloc: Global, entries: &[Entry]) -> Result<Schedule, CheckRefusal>
     requires schedule { IsSchedule entries.now }
@@ -40,7 +41,7 @@ fn harts_of(alloc: Global, entries: &[Entry]) -> Result<Vec<HartSchedule>, Check
 }
 
 /// What all domains may know of an image that breaks no rule but that of pads,
-/// of this machine and these entries.
+/// of this machine, these entries and these boxes.
 ///
 /// # Errors
 ///
@@ -50,10 +51,12 @@ pub fn public_of(
     raw: &Raw,
     hardware: Hardware,
     entries: &[Entry],
+    mail: Vec<(DomainNo, DomainNo)>,
 ) -> Result<Public, CheckRefusal>
     requires accepted { broken_but_pads (raw_model raw.now) ≡ [] }
     requires hardware { hardware_model hardware ≡ spec_hardware_of (raw_model raw.now) }
     requires entries { entries.now ≡ map entry_of (raw_model raw.now).schedule }
+    requires mail { mail.items ≡ map box_of (raw_model raw.now).mail }
     ensures value { Makes public_model result (spec.public_of (raw_model raw.now)) }
 {
     let schedule = schedule_of(alloc, entries)?;
@@ -65,5 +68,6 @@ pub fn public_of(
         schedule,
         harts,
         domains,
+        mail,
     })
 }

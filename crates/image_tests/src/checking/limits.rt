@@ -95,7 +95,13 @@ fn push_entry(alloc: Global, text: &mut String, d: u32) -> Result<(), CheckRefus
     Ok(())
 }
 
-// 32 domains of a colour each, and 256 entries, eight for each of them.
+fn push_box(alloc: Global, text: &mut String, from: u32, to: u32) -> Result<(), CheckRefusal> {
+    let mailbox = format!(in alloc; "[[mail]]\nfrom = {from}\nto = {to}\n")?;
+    text.push_str(mailbox.as_str())?;
+    Ok(())
+}
+
+// 32 domains of a colour each, 256 entries, eight for each of them, and 64 boxes, two from each.
 fn large_image(alloc: Global) -> Result<String, CheckRefusal> {
     let mut text = String::from_str(alloc, LARGE_MACHINE)?;
     for d in 0..32_u32 {
@@ -103,6 +109,9 @@ fn large_image(alloc: Global) -> Result<String, CheckRefusal> {
     }
     for entry in 0..256_u32 {
         push_entry(alloc, &mut text, entry % 32)?;
+    }
+    for a in 0..64_u32 {
+        push_box(alloc, &mut text, a % 32, (a + 1 + a / 32) % 32)?;
     }
     Ok(text)
 }
@@ -121,8 +130,10 @@ fn an_image_may_have_as_much_as_the_second_allows(rt: HostRuntime) -> Result<(),
         public.schedule.len(),
     );
     let last = public.schedule.entry(255).domain;
+    let boxes = public.mail.len();
     drop(checked);
     is_equal(&rt, "frames, domains, entries", found, (16384, 32, 256));
     is_equal(&rt, "the last entry's", last, 31);
+    is_equal(&rt, "boxes", boxes, 64);
     Ok(())
 }

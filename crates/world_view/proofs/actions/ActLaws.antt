@@ -18,11 +18,11 @@ use Rattle.sv32_walk.specs.declared.access.WalkFault.{WalkFault}
 use Rattle.sv32_walk.specs.PageTableEntry.{ppn}
 use Rattle.sv32_walk.specs.Walk.{Walk, walk}
 use Rattle.call_table.specs.Domain.{Dom}
-use Rattle.call_table.specs.Calls.{call, number_made}
+use Rattle.call_table.specs.Calls.{number_made}
+use Rattle.call_table.specs.Mail.{called}
 use Rattle.call_table.specs.Claims.{is_mine, claims, Facts}
 use Rattle.cap_table.specs.Slots.{Slots}
-use Rattle.call_table.proofs.CallLawsDelete.{calls_keep}
-use Rattle.call_table.proofs.ConfinedCalls.{calls_are_confined}
+use Rattle.call_table.proofs.MailCalls.{within_own, storage_kept}
 use Rattle.call_table.proofs.TablesMeaning.{stored}
 use Rattle.hardware_check.specs.Hardware.{Hardware}
 use Rattle.image_check.specs.Own.{Own}
@@ -273,6 +273,8 @@ module _ (p : Hardware) (o : Own) (kernel : IsKernel p o) (d : Dom) (first : Sto
         outside =
             λ g out. frame_at-written_other s.mem f i v g
             (λ e. true≢false (sym h.page.own ∙ ap (own_frame p o) (sym e) ∙ out)) ∙ b.outside g out;
+        side = b.side;
+        others = b.others;
       };
       value = refl;
       known = stored (estate p o) d s.mem h.held f i v h.page.frame;
@@ -284,22 +286,24 @@ module _ (p : Hardware) (o : Own) (kernel : IsKernel p o) (d : Dom) (first : Sto
   unless_still None = record { runs = (give_any tt).runs }
   unless_still (Some trap) = stop_at (Still Held) Held (trapped trap d) refl (λ s h. h)
 
-  -- a kernel call does the same work in the domain's own frames, and keeps the facts
+  -- a kernel call does the same work in the domain's own frames and on its side of the boxes, and keeps the facts
   call_near : Near Held Ends (make_call p (estate p o) (layout p o) d)
-  unfolding make_call
+  unfolding make_call estate
   call_near = record {
     runs = λ s k b h.
         let e = estate p o in
-        let c = calls_are_confined e d s.mem k.mem h (λ f mine. b.same f (mine_own p o f mine)) in
+        let c = within_own e d s k h (λ f mine. b.same f (mine_own p o f mine)) b.side in
         record {
           notes = ap (call_touches p (layout p o) (number_made e d)) c.notes;
-          may = call_may p o kernel (number_made e d) (call e d s.mem).notes c.work;
+          may = call_may p o kernel (number_made e d) (called e d s).notes c.work;
           state = record {
             same = λ f own. c.same f (own_mine p o f own);
             outside = λ f out. c.outside f (not_mine p o f out) ∙ b.outside f out;
+            side = c.side;
+            others = c.others ∙ b.others;
           };
           value = ap (λ (v : Dom ⊎ Dom). inr (either v)) c.value;
-          known = calls_keep e d s.mem kernel.has_estate h;
+          known = storage_kept e d s kernel.has_estate h;
         };
   }
 

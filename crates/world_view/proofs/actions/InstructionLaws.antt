@@ -3,7 +3,7 @@
 use Rattle.std.proofs.Common.{◌≡◌, ℕ, List, Option, Some, None, ◌⊎◌, inl, inr, refl, subst}
 use Rattle.std.specs.Prelude.{Result, Ok, Err}
 use Rattle.tp_base.specs.Act.{Done, go_on, ◌>>=◌, ◌>>◌, give, stop, note, either}
-use Rattle.phys_mem.specs.Mem.{Mem, written}
+use Rattle.phys_mem.specs.Mem.{written}
 use Rattle.rv_decode.specs.declared.Instr.{Instr}
 use Rattle.rv_decode.specs.declared.Instr.TheVariants as instr
 use Rattle.rv_decode.specs.declared.LoadWidth.{LoadWidth}
@@ -21,15 +21,15 @@ use Rattle.mem_system.specs.Cost.{Touch, Fetch, Load, Store as StoreTouch, Branc
 use Rattle.kernel_clone.specs.Footprints.{Layout}
 use Rattle.call_table.specs.Domain.{Dom, placed}
 use Rattle.call_table.specs.Claims.{Estate}
-use Rattle.call_table.specs.Calls.{call}
+use Rattle.call_table.specs.Mail.{called}
 use Rattle.hardware_check.specs.Hardware.{Hardware}
+use Rattle.world_view.specs.Cost.{bare_layout}
 use Rattle.world_view.specs.Instruction.{stopped, trapped, retired_at, read_out}
 use Rattle.world_view.specs.Event.{Storage, Act, fault_of, frame_or_stop, touch, translate, line_in, read, write, unless, load, store, computed, loaded, noted, guessed, settle, execute, timed, make_call, perform, instruction}
 
 module _ (p : Hardware) (e : Estate) (l : Layout) (d : Dom) (Held : Storage → Type 0) (Q : Dom → Storage → Type 0)
     (stops : (code value : ℕ) (s : Storage) → Held s → Q (stopped code value d) s)
     (retires : (pc value : ℕ) (regs : List ℕ) (i : Instr) (s : Storage) → Held s → Q (retired_at pc regs (noted i value d)) s)
-    (calls : (s : Storage) → Held s → Q (either (call e d s.mem).value) (record s { mem = (call e d s.mem).state }))
     (stores : (s : Storage) (va leaf i v : ℕ) → Held s → (walk s.mem p.frames e.root va access.Store).result ≡ Ok leaf
     → Held (record s { mem = written s.mem (ppn leaf) i v })) where
   -- of the domain with which a step ends early, and of what it gives
@@ -180,44 +180,57 @@ module _ (p : Hardware) (e : Estate) (l : Layout) (d : Dom) (Held : Storage → 
   unfolding timed
   timed_ends t i = then_ends Held Held Q _ _ (computed_ends i) (execute_ends t i)
 
-  call_ends : Ends Held Q (make_call p e l d)
-  unfolding make_call
-  call_ends = record { ends = calls }
-
-  perform_ends : (t w : ℕ) (i : Option Instr) → Ends Held Q (perform p e l t d w i)
-  unfolding perform
-  perform_ends t w None = stop_ends Q _ (stops 2 w)
-  perform_ends t w (Some instr.Ecall) = call_ends
-  perform_ends t w (Some i) = timed_ends t i
-
-  instruction_ends : (t : ℕ) → Ends Held Q (instruction p e l t d)
-  unfolding instruction
-  instruction_ends t =
-      let a = access.Fetch in
-      let va = d.threads.current.pc in
-      bind_ends Held (Found a va) Q _ _ (translate_ends a va) (λ f.
-      then_ends (Found a va f) (Found a va f) Q _ _ (touch_ends (Found a va f) (Fetch (line_in p f va)))
-      (bind_ends (Found a va f) (Still (Found a va f)) Q _ _ (read_ends (Found a va f) f _)
-      (λ w. held_ends (Found a va f) Q _ (λ s h. h.held) (perform_ends t w _))))
-
   either_meets : (v : Dom ⊎ Dom) (s : Storage) → Meets Q v s → Q (either v) s
   unfolding either
   either_meets (inl x) s h = h
   either_meets (inr x) s h = h
 
-  pub leaves_all : (t : ℕ) (s : Storage) → Held s
-      → Q (either (instruction p e l t d s).value) (instruction p e l t d s).state
-  leaves_all t s h = either_meets (instruction p e l t d s).value (instruction p e l t d s).state ((instruction_ends t).ends s h)
+  -- an instruction that makes no call
+  pub timed_leaves : (t : ℕ) (i : Instr) (s : Storage) → Held s
+      → Q (either (timed p e.root t d i s).value) (timed p e.root t d i s).state
+  timed_leaves t i s h = either_meets (timed p e.root t d i s).value (timed p e.root t d i s).state ((timed_ends t i).ends s h)
+
+  module _ (calls : (s : Storage) → Held s → Q (either (called e d s).value) (called e d s).state) where
+    call_ends : Ends Held Q (make_call p e l d)
+    unfolding make_call
+    call_ends = record { ends = calls }
+
+    perform_ends : (t w : ℕ) (i : Option Instr) → Ends Held Q (perform p e l t d w i)
+    unfolding perform
+    perform_ends t w None = stop_ends Q _ (stops 2 w)
+    perform_ends t w (Some instr.Ecall) = call_ends
+    perform_ends t w (Some i) = timed_ends t i
+
+    instruction_ends : (t : ℕ) → Ends Held Q (instruction p e l t d)
+    unfolding instruction
+    instruction_ends t =
+        let a = access.Fetch in
+        let va = d.threads.current.pc in
+        bind_ends Held (Found a va) Q _ _ (translate_ends a va) (λ f.
+        then_ends (Found a va f) (Found a va f) Q _ _ (touch_ends (Found a va f) (Fetch (line_in p f va)))
+        (bind_ends (Found a va f) (Still (Found a va f)) Q _ _ (read_ends (Found a va f) f _)
+        (λ w. held_ends (Found a va f) Q _ (λ s h. h.held) (perform_ends t w _))))
+
+    pub leaves_all : (t : ℕ) (s : Storage) → Held s
+        → Q (either (instruction p e l t d s).value) (instruction p e l t d s).state
+    leaves_all t s h = either_meets (instruction p e l t d s).value (instruction p e l t d s).state ((instruction_ends t).ends s h)
 
 -- of the domain alone, whatever memory is
 pub leaves : (p : Hardware) (e : Estate) (l : Layout) (d : Dom) (Q : Dom → Type 0)
     → ((code value : ℕ) → Q (stopped code value d))
     → ((pc value : ℕ) (regs : List ℕ) (i : Instr) → Q (retired_at pc regs (noted i value d)))
-    → ((m : Mem) → Q (either (call e d m).value))
+    → ((s : Storage) → Q (either (called e d s).value))
     → (t : ℕ) (s : Storage) → Q (either (instruction p e l t d s).value)
 leaves p e l d Q stops retires calls t s =
     leaves_all p e l d (λ (s : Storage). Unit {0}) (λ (x : Dom) (s : Storage). Q x) (λ code value s h. stops code value)
-    (λ pc value regs i s h. retires pc value regs i) (λ s h. calls s.mem) (λ s va leaf i v h is. tt) t s tt
+    (λ pc value regs i s h. retires pc value regs i) (λ s va leaf i v h is. tt) (λ s h. calls s) t s tt
+
+-- an instruction that makes no call moves no word in boxes
+pub timed_boxes : (p : Hardware) (e : Estate) (t : ℕ) (d : Dom) (i : Instr) (s : Storage)
+    → (timed p e.root t d i s).state.boxes ≡ s.boxes
+timed_boxes p e t d i s =
+    timed_leaves p e (bare_layout p) d (λ (x : Storage). x.boxes ≡ s.boxes) (λ (y : Dom) (x : Storage). x.boxes ≡ s.boxes)
+    (λ code value x h. h) (λ pc value regs i x h. h) (λ x va leaf i v h is. h) t i s refl
 
 -- ---- what reading a counter leaves
 

@@ -21,7 +21,7 @@ use Rattle.world_view.proofs.opening.OpeningFacts.{kernel_of, parties_of}
 use Rattle.world_view.proofs.opening.OpeningRights.{opening_both}
 use Rattle.world_view.proofs.opening.OpeningLaws.{opening_dom_is}
 use Rattle.world_view.proofs.steps.Fuel.{steps_by}
-use Rattle.world_view.proofs.steps.StepLaws.{delivered_caps}
+use Rattle.world_view.proofs.steps.StepLaws.{delivered_caps, keeps_itself}
 use Rattle.world_view.proofs.runs.PartyLaws.{others_frames}
 use Rattle.world_view.proofs.steps.Clones.{step_same, step_keeps_so, steps_keep_so}
 
@@ -109,7 +109,7 @@ module _ (i : Image) (r : Separated i) where
         let s = part_of 0 e w in
         let h = before e ie in
         let kept = steps_keep_so p o g.levels (g.clone e) false (kernel_of i r e ie) end n s.storage s
-        (record { facts = h.facts; outside = λ f out. refl }) in
+        (keeps_itself p o s h.facts) in
         changed 0 e ie w (steps (setting_by g i e) end n s)
         (steps_by (setting_by g i e) end (λ (t : Local). HasBoth p o t.dom t.storage) (λ t below k. step_both e end t ie k) n s h)
         kept.outside before
@@ -122,7 +122,7 @@ module _ (i : Image) (r : Separated i) where
         let s = part_of h e w in
         let its = before e ie in
         let kept = step_keeps_so p o g.levels (g.clone e) false (kernel_of i r e ie) end s.storage s
-        (record { facts = its.facts; outside = λ f out. refl }) in
+        (keeps_itself p o s its.facts) in
         changed h e ie w (step (setting_by g i e) end s) (step_both e end s ie its) kept.outside before
 
     -- a delivery leaves capabilities and memory
@@ -170,7 +170,7 @@ module _ (i : Image) (r : Separated i) where
     -- a switch leaves domains and memory as they are
     pub switch_keeps : (k : ℕ) (w : World) → AllBoth w → AllBoth (switch_by g i k w)
     unfolding switch_by switch_on with_hart
-    switch_keeps k w before d is = before d is
+    switch_keeps k w before d is = let was = before d is in record { facts = was.facts; rights = was.rights }
 
     -- before and after each slot
     pub at_slot : (k : ℕ) → AllBoth (whole_by g i k)

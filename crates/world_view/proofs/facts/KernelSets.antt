@@ -1,6 +1,6 @@
 -- The second level's sets of colour 0 keep shared lines alone, through each step and in the midst of each switch, and none of
 -- them is dirty.
-use Rattle.std.proofs.Common.{◌≡◌, ℕ, zero, suc, ◌-◌, Bool, false, ap, sym, ◌∙◌, List, ◌∷◌, ◌++◌, length, take, Option, Some, None, refl, subst, le_refl}
+use Rattle.std.proofs.Common.{◌≡◌, ℕ, zero, suc, Bool, false, ap, sym, ◌∙◌, List, ◌∷◌, ◌++◌, length, take, Option, Some, None, refl, subst, le_refl}
 use Rattle.std.proofs.lemmas.List.{take_all}
 use Rattle.std.proofs.lemmas.Option.{same_Some}
 use Rattle.set_cache.proofs.Dirty.{EachDirty-empty}
@@ -16,7 +16,7 @@ use Rattle.image_check.specs.Image.{Image, own_of}
 use Rattle.sched_table.specs.Schedule.{entry_of_slot, outgoing}
 use Rattle.world_view.specs.Kernel.{layout}
 use Rattle.world_view.specs.Cost.{hierarchy, region, own_colour}
-use Rattle.world_view.specs.Machine.{caches_of, setting, Local, World, clone_of, prefetch_part, flush_part, enter_part, leave_by, prefetch_by, flush_by, switch_work_by, step, guarded, switch_by, switch_on}
+use Rattle.world_view.specs.Machine.{caches_of, setting, Local, World, clone_of, prefetch_part, flush_part, enter_part, leave_by, prefetch_by, flush_by, switch_work_by, step, guarded, switch_on}
 use Rattle.world_view.specs.Relations.{IsDomain, HasFacts, KeepsSharedAlone, KernelIsClean, OwnDirty}
 use Rattle.world_view.proofs.touches.CostLaws.{own_dirties}
 use Rattle.world_view.specs.EventLaws.{step_touches}
@@ -107,7 +107,7 @@ module _ (i : Image) (r : Separated i) where
       ap (λ (ts : List Touch). (touched_all (hierarchy i.all.hardware) false (caches_of h w) ts).caches)
       (take_all (length (touches_in k)) (touches_in k) (le_refl _))
       ∙ sym (ap (λ (t : Touched). t.caches) (switch_is i (outgoing i.all.schedule k) (entry_of_slot i.all.schedule k).domain (caches_of h w)))
-      ∙ sym (caches-with h w _ _)
+      ∙ sym (caches-with h _ _ _)
 
   pub switched_sets : (h k : ℕ) (w : World) → KernelsSets i.all.hardware (caches_of h w)
       → KernelsSets i.all.hardware (caches_of h (switch_on (guarded i) i h k w))
@@ -122,7 +122,7 @@ module _ (i : Image) (r : Separated i) where
       let p = i.all.hardware in
       let out = outgoing i.all.schedule k in
       let d = (entry_of_slot i.all.schedule k).domain in
-      subst (KernelIsClean p) (sym (caches-with h w _ _))
+      subst (KernelIsClean p) (sym (caches-with h _ _ _))
       (subst (λ (t : Touched). KernelIsClean p t.caches) (sym (switch_is i out d (caches_of h w)))
       (stays_clean_law (hierarchy p) any_colour (region p) false (touches_in k) (caches_of h w) any_sharing (switch_any k) clean))
 
@@ -148,6 +148,6 @@ module _ (i : Image) (r : Separated i) where
       let kernel = kernel_of i r d (r.named k) in
       let left = leave_by (guarded i) i (outgoing i.all.schedule k) (caches_of h w) in
       let emptied = (flush_part (hierarchy p) false (prefetch_part (hierarchy p) (region p) left.caches).caches).caches in
-      subst (OwnDirty p (own_of i d)) (sym (caches-with h w _ _))
+      subst (OwnDirty p (own_of i d)) (sym (caches-with h _ _ _))
       (own_dirties p (own_of i d) kernel false (enter (layout p (own_of i d))) emptied (enter_may p (own_of i d) kernel (region p))
       (EachDirty-empty (IsOwnLine (hierarchy p) (own_colour (own_of i d))) (hierarchy p).l1d))

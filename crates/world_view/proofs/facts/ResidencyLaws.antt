@@ -1,5 +1,5 @@
 -- From the boot on every shared line is in the second level, as each slot begins, and through each switch.
-use Rattle.std.proofs.Common.{◌≡◌, ℕ, zero, suc, ◌-◌, false, ◌∷◌, sym, subst}
+use Rattle.std.proofs.Common.{◌≡◌, ℕ, zero, suc, false, ◌∷◌, sym, subst}
 use Rattle.tp_base.specs.Table.{at, put}
 use Rattle.mem_system.specs.Cost.{Flush, Caches, cold, and_then, touched_all}
 use Rattle.mem_system.specs.Operations.{leave, enter}

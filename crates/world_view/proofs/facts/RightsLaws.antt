@@ -3,16 +3,17 @@
 use Rattle.std.proofs.Common.{◌≡◌, ℕ, Bool, ap, sym, subst, ◌∙◌, refl}
 use Rattle.std.specs.Prelude.{Ok}
 use Rattle.tp_base.specs.Act.{either}
-use Rattle.phys_mem.specs.Mem.{written}
+use Rattle.phys_mem.specs.Mem.{Mem, written}
 use Rattle.sv32_walk.specs.declared.access.Access.TheVariants as access
 use Rattle.sv32_walk.specs.PageTableEntry.{valid, ppn, vpn_0, vpn_1}
 use Rattle.sv32_walk.specs.Walk.{walk}
 use Rattle.page_map.proofs.WalkLemmas.{vpn_0-below, vpn_1-below}
 use Rattle.cap_table.specs.Slots.{Slots, cap_at}
-use Rattle.call_table.specs.Domain.{Dom, delivered_on}
+use Rattle.call_table.specs.Domain.{Dom, placed, replied, refused, done, delivered_on}
 use Rattle.call_table.specs.Claims.{is_mine, claims}
-use Rattle.call_table.specs.Calls.{call}
-use Rattle.call_table.proofs.CallLawsDelete.{calls_keep}
+use Rattle.call_table.specs.Mail.{called}
+use Rattle.call_table.specs.Rights.{AreWithin}
+use Rattle.call_table.proofs.MailCalls.{after_called, storage_kept}
 use Rattle.call_table.proofs.TablesMeaning.{stored}
 use Rattle.call_table.proofs.RightsKept.{calls_within, stores_within}
 use Rattle.hardware_check.specs.Hardware.{Hardware}
@@ -79,11 +80,17 @@ module _ (p : Hardware) (o : Own) where
     same_caps d x s same h = record { facts = facts_of p o d x s same h.facts; rights = rights_of d x s same h.rights }
 
     after_call : (d : Dom) (s : Storage) → HasBoth p o d s
-        → HasBoth p o (either (call (estate p o) d s.mem).value) (record s { mem = (call (estate p o) d s.mem).state })
-    after_call d s h = record {
-      facts = calls_keep (estate p o) d s.mem kernel.has_estate h.facts;
-      rights = calls_within (estate p o) d s.mem kernel.has_estate h.facts h.rights;
-    }
+        → HasBoth p o (either (called (estate p o) d s).value) (called (estate p o) d s).state
+    unfolding replied placed
+    after_call d s h =
+        let e = estate p o in
+        record {
+          facts = storage_kept e d s kernel.has_estate h.facts;
+          rights =
+              after_called e d (λ (x : Dom) (m : Mem). AreWithin e x m) s (λ code. (same_caps d (refused code d) s refl h).rights)
+              (λ value. (same_caps d (done value d) s refl h).rights)
+              (calls_within e d s.mem kernel.has_estate h.facts h.rights);
+        }
 
     after_store : (d : Dom) (s : Storage) (va leaf i v : ℕ) → HasBoth p o d s
         → (walk s.mem p.frames (estate p o).root va access.Store).result ≡ Ok leaf
@@ -107,7 +114,7 @@ module _ (p : Hardware) (o : Own) where
     after_instruction t d s h =
         leaves_all p (estate p o) (layout p o) d (HasBoth p o d) (HasBoth p o) (after_stop d)
         (λ pc value regs i s h. same_caps d (retired_at pc regs (noted i value d)) s (retired_caps pc regs i value d) h)
-        (after_call d) (after_store d) t s h
+        (after_store d) (after_call d) t s h
 
     event_keeps_both : (pinned : Bool) (s : Local) (e : Event) → HasBoth p o s.dom s.storage
         → HasBoth p o (happened (setting p o pinned) s e).dom (happened (setting p o pinned) s e).storage

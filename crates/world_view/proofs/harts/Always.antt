@@ -162,7 +162,7 @@ module _ (i : Image) (r : Runnable i) (h : ℕ) (is : h < harts_in i.all.schedul
   others_event d id within other =
       let left = step_leaves i r h is k s.world (inside within) its_facts d id other in
       subst (λ (w : World). Untouched p (own_of i d) d w s.world) (sym (next_in i h s within))
-      (record { dom = left.0; part = record { frames = left.1.frames; sets = left.1.sets } })
+      (record { dom = left.0; part = record { frames = left.1.frames; side = left.1.side; sets = left.1.sets } })
 
   same_if : (b : Bool) → (progress_of h s).inside ≡ b → (d : ℕ) → IsDomain i d → d ≢ its
       → dom_of (next i h s).world d ≡ dom_of s.world d

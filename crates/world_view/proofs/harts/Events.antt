@@ -21,11 +21,13 @@ use Rattle.world_view.specs.Harts.{Harts, image_on, domain_in, start_on, end_on,
 use Rattle.world_view.proofs.opening.Separate.{Separated}
 use Rattle.world_view.proofs.opening.OpeningFacts.{kernel_of, parties_of}
 use Rattle.world_view.proofs.steps.Fuel.{step_later}
-use Rattle.world_view.proofs.steps.StepLaws.{step_may, step_caches, step_dirties, step_resident}
+use Rattle.world_view.proofs.steps.StepLaws.{keeps_itself, step_keeps, step_may, step_caches, step_dirties, step_resident}
+use Rattle.mail_slots.specs.Laws.{pairs_of}
+use Rattle.world_view.proofs.runs.Quiet.{pairs_still}
 use Rattle.world_view.proofs.facts.KernelSets.{switched_dirty, switched_clean}
 use Rattle.world_view.proofs.time.TimeLaws.{IsSoon, step_soon, switch_ways, switch_on_start}
 use Rattle.world_view.proofs.runs.SwitchParts.{hart-with, caches-with, clock-with}
-use Rattle.world_view.proofs.runs.PartyLaws.{others_step}
+use Rattle.world_view.proofs.runs.PartyLaws.{part_itself, others_step}
 use Rattle.world_view.proofs.runs.SwitchLaws.{switch_past}
 use Rattle.world_view.proofs.harts.OnHart.{separated_on, padded_on, lasts, not_here}
 
@@ -143,7 +145,7 @@ module _ (i : Image) (r : Runnable i) (h : ℕ) (is : h < harts_in i.all.schedul
       → Apiece i.all.hardware (own_of i d) (part_of h d (switched k w)) (part_of h d w)
   switch_leaves k d w id other time =
       switch_past on r_on h k d id w (part_of h d w) time (leaves_not k d other) (λ q. not_here i r h is k d other (sym q))
-      (record { dom = refl; part = record { frames = λ f own. refl; sets = λ s own. refl } })
+      (record { dom = refl; part = part_itself i.all.hardware (own_of i d) (part_of h d w) })
 
   -- ---- one event in its slot
 
@@ -232,7 +234,14 @@ module _ (i : Image) (r : Runnable i) (h : ℕ) (is : h < harts_in i.all.schedul
         let left =
         others_step i.all.hardware (own_of i d) its (end_on i h k) here
         (parties_of on r_on d (domain_in i h k) id (r_on.named k) other) facts inside.dirty in
-        (at-put_other no_dom w.doms (domain_in i h k) d _ other, record { frames = left.frames; sets = left.sets })
+        (at-put_other no_dom w.doms (domain_in i h k) d _ other, record { frames = left.frames; side = left.side; sets = left.sets })
+
+    -- each box leads from whom and to whom it led
+    pub step_pairs : pairs_of (runs None i h k w).storage.boxes ≡ pairs_of w.storage.boxes
+    unfolding runs with_part with_hart guarded
+    step_pairs =
+        pairs_still its.number stepped.storage.boxes w.storage.boxes
+        (step_keeps i.all.hardware its its_kernel false (end_on i h k) w.storage here (keeps_itself i.all.hardware its here facts)).others
 
     -- and its own domain as the step leaves it
     pub step_own : dom_of (runs None i h k w) (domain_in i h k) ≡ stepped.dom

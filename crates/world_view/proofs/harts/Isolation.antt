@@ -1,5 +1,5 @@
 -- Before the first event, and so after every order of events, each domain is as it is alone.
-use Rattle.std.proofs.Common.{◌≡◌, ℕ, Bool, true, false, ◌<◌, ◌≤◌, ap, ap₂, sym, ◌∙◌, refl, subst, arith, inl, List, [], ◌∷◌, ◌++◌}
+use Rattle.std.proofs.Common.{◌≡◌, ◌≢◌, ℕ, Bool, true, false, ◌<◌, ◌≤◌, ap, ap₂, sym, ◌∙◌, refl, subst, arith, inl, List, [], ◌∷◌, ◌++◌}
 use Rattle.tp_base.specs.Table.{Table, at, at-empty}
 use Rattle.set_cache.specs.Cache.{set_at}
 use Rattle.set_cache.proofs.Dirty.{EachDirty-empty}
@@ -15,29 +15,36 @@ use Rattle.image_check.specs.Public.{Public}
 use Rattle.image_check.specs.Own.{Own}
 use Rattle.image_check.specs.Image.{Image, own_of}
 use Rattle.image_check.specs.Laws.{Runnable}
+use Rattle.std.specs.List.{All}
+use Rattle.std.proofs.lemmas.List.Elements.{All-nil}
+use Rattle.mail_slots.specs.Sides.{Arrival, own_side}
+use Rattle.mail_slots.specs.Laws.{pairs_of}
+use Rattle.mail_slots.proofs.Moves.{opening_pairs_law}
+use Rattle.world_view.specs.Mail.{arrivals_in, turns}
 use Rattle.sched_table.specs.Schedule.{entry_in, harts_in, hart_for}
 use Rattle.world_view.specs.Cost.{hierarchy}
 use Rattle.world_view.specs.Kernel.{no_dom}
 use Rattle.world_view.specs.Event.{Storage}
-use Rattle.world_view.specs.Machine.{World, with_hart, clock_of, dom_of, part_of, guarded, opening, whole_by, alone, alone_opening}
-use Rattle.world_view.specs.View.{view_alone}
+use Rattle.world_view.specs.Machine.{World, with_hart, clock_of, dom_of, part_of, Local, guarded, opening, whole_by, arrivals, alone_mail, alone_opening}
+use Rattle.world_view.specs.View.{view, view_mailed, view_alone}
 use Rattle.world_view.specs.Used.{count_of}
-use Rattle.world_view.specs.Relations.{IsDomain, KernelIsClean, InTime, AllWithinPads, ended_own}
-use Rattle.world_view.specs.Harts.{Harts, Progress, public_on, image_on, start_on, hart_of_domain, progress_of, slots_of, switches_of, next, after, all_cold, harts, view_on, view_alone_on, after_by, harts_by}
+use Rattle.world_view.specs.Relations.{IsDomain, KernelIsClean, InTime, HasNoMail, AllWithinPads, ended_own}
+use Rattle.world_view.specs.Harts.{Harts, Progress, public_on, image_on, start_on, hart_of_domain, progress_of, slots_of, switches_of, next, after, all_cold, harts, view_on, view_mailed_on, view_alone_on, after_by, harts_by}
 use Rattle.world_view.specs.Laws.{TwoRunLaw}
-use Rattle.world_view.specs.HartLaws.{AreHartsOf, IsBetween, HartIsolationLaw, TwoOrdersLaw, HartPadLaw, HartLargestLaw, HartCountLaw, OtherHartsLaw, NextLaw}
+use Rattle.world_view.specs.HartLaws.{AreHartsOf, IsBetween, HartMailLaw, ArrivalsLaw, HartIsolationLaw, TwoOrdersLaw, HartPadLaw, HartLargestLaw, HartCountLaw, OtherHartsLaw, NextLaw}
 use Rattle.world_view.proofs.opening.Separate.{Separated, separated, ended_listed}
 use Rattle.world_view.proofs.opening.OpeningLaws.{opening_dom_is, opening_frames}
 use Rattle.world_view.proofs.facts.RightsLaws.{both_with}
 use Rattle.world_view.proofs.facts.FactsLaws.{AllBoth, at_slot}
 use Rattle.world_view.proofs.time.ActCosts.{instruction_within}
 use Rattle.world_view.proofs.time.TimeLaws.{cold_ways, largest_within}
-use Rattle.world_view.proofs.runs.Joined.{seen}
+use Rattle.world_view.proofs.runs.Joined.{Joined, seen}
+use Rattle.world_view.proofs.runs.Quiet.{AreNone, alone_quiet}
 use Rattle.world_view.proofs.runs.WholeLaws.{same_view}
 use Rattle.world_view.proofs.harts.OnHart.{separated_on}
 use Rattle.world_view.proofs.harts.Events.{IsHart}
 use Rattle.world_view.proofs.harts.Meets.{Meets}
-use Rattle.world_view.proofs.harts.Runs.{doms_cold, storage_cold, used_cold, all_cold_are, Running, home, next_so, after_running}
+use Rattle.world_view.proofs.harts.Runs.{doms_cold, storage_cold, came_cold, used_cold, all_cold_are, Running, home, next_so, after_running}
 
 module _ (i : Image) (r : Runnable i) where
   abbrev p : Hardware
@@ -76,15 +83,30 @@ module _ (i : Image) (r : Runnable i) where
         clean = subst (KernelIsClean p) (sym cold_here.caches) (cold_clean_law (hierarchy p));
       }
 
-  first_meets : (d : ℕ) → IsDomain i d → (h : ℕ) → h < many → Meets i h d false 0 (part_of h d first)
-  unfolding alone alone_opening opening with_hart
-  first_meets d id h is = record {
+  first_joined : (d : ℕ) → IsDomain i d → (h : ℕ) → h < many → Joined (image_on i h) d [] 0 (part_of h d first)
+  unfolding alone_mail alone_opening opening with_hart
+  first_joined d id h is = record {
     dom = ap (λ (t : Table Dom). at no_dom t d) (doms_cold i many) ∙ opening_dom_is i all d id;
     part = record {
       frames = λ f own. ap (λ (t : Storage). frame_at t.mem f) (storage_cold i many) ∙ opening_frames i all d id f own;
+      side = ap (λ (t : Storage). own_side (own_of i d).number t.boxes) (storage_cold i many);
       sets = λ x own. ap (λ (c : Caches). set_at (hierarchy p).l2.ways c.l2 x) (all_cold_are i many h is).caches;
     };
   }
+
+  -- nothing has come
+  first_came : (d : ℕ) → arrivals d first ≡ []
+  unfolding arrivals_in
+  first_came d = ap (arrivals_in d) (came_cold i many)
+
+  first_meets : (d : ℕ) → IsDomain i d → (h : ℕ) → h < many → Meets i h d (arrivals d first) false 0 (part_of h d first)
+  unfolding turns
+  first_meets d id h is =
+      subst (λ (came : List Arrival). Meets i h d came false 0 (part_of h d first)) (sym (first_came d))
+      (record { at = first_joined d id h is; count = refl })
+
+  first_pairs : pairs_of first.storage.boxes ≡ i.all.mail
+  first_pairs = ap (λ (t : Storage). pairs_of t.boxes) (storage_cold i many) ∙ opening_pairs_law i.all.mail
 
   -- each hart is as at first
   pub at_first : (h : ℕ) → progress_of h (harts i []) ≡ record { slots = 0; inside = false }
@@ -101,7 +123,10 @@ module _ (i : Image) (r : Runnable i) where
     facts = first_facts;
     hart = λ h l. subst (λ (x : Progress). IsHart i x.inside h x.slots first) (sym (at_first h)) (first_time h l);
     meets = λ d id. let h = hart_of_domain i d in
-        subst (λ (x : Progress). Meets i h d x.inside x.slots (part_of h d first)) (sym (at_first h)) (first_meets d id h (home i r d));
+        subst (λ (x : Progress). Meets i h d (arrivals d first) x.inside x.slots (part_of h d first)) (sym (at_first h))
+        (first_meets d id h (home i r d));
+    pairs = first_pairs;
+    quiet = λ d none. subst (λ (came : List Arrival). All AreNone came) (sym (first_came d)) (All-nil AreNone);
     shared = inl refl;
     used = subst (AllWithinPads i.all.schedule) (sym (used_cold i many)) tt;
     counted =
@@ -119,33 +144,61 @@ module _ (i : Image) (r : Runnable i) where
   between_if true h k w early is = let begun = is.begun in absurd (omega (arith, begun, early))
   between_if false h k w early is = refl
 
-  pub isolated : (d : ℕ) (s : Harts) → Running i r s → IsDomain i d → IsBetween i (hart_of_domain i d) s
-      → view_on i d s ≡ view_alone_on i d (slots_of (hart_of_domain i d) s)
-  unfolding view_on view_alone_on view_alone
-  isolated d s was id early =
+  -- between two slots of its hart each domain is as it is alone
+  pub joined : (d : ℕ) (s : Harts) → Running i r s → IsDomain i d → IsBetween i (hart_of_domain i d) s
+      → let h = hart_of_domain i d in Meets i h d (arrivals d s.world) false (slots_of h s) (part_of h d s.world)
+  joined d s was id early =
       let h = hart_of_domain i d in
       let k = slots_of h s in
       let outside = between_if (progress_of h s).inside h k s.world early (was.hart h (home i r d)) in
-      let j = subst (λ (b : Bool). Meets i h d b k (part_of h d s.world)) outside (was.meets d id) in
-      let same = seen (image_on i h) (separated_on i r h (home i r d)) d id k (part_of h d s.world) j in
+      subst (λ (b : Bool). Meets i h d (arrivals d s.world) b k (part_of h d s.world)) outside (was.meets d id)
+
+  pub mailed : (d : ℕ) (s : Harts) → Running i r s → IsDomain i d → IsBetween i (hart_of_domain i d) s
+      → view_on i d s ≡ view_mailed_on i d (arrivals d s.world) (slots_of (hart_of_domain i d) s)
+  unfolding view_on view_mailed_on view_mailed
+  mailed d s was id early =
+      let h = hart_of_domain i d in
+      let k = slots_of h s in
+      let j = joined d s was id early in
+      let same = seen (image_on i h) (separated_on i r h (home i r d)) d id (arrivals d s.world) k (part_of h d s.world) j.at in
       same_view p (own_of i d) _ _ _ _ same.0 same.1
 
+  -- where nothing comes
+  pub quietly : (d : ℕ) (s : Harts) → Running i r s → HasNoMail i d → (k : ℕ)
+      → view_mailed_on i d (arrivals d s.world) k ≡ view_alone_on i d k
+  unfolding view_mailed_on view_mailed
+  quietly d s was none k =
+      ap (λ (a : Local). view p (own_of i d) a.dom a.storage)
+      (alone_quiet (public_on i.all (hart_of_domain i d)) (own_of i d) d (arrivals d s.world) k (was.quiet d none))
+
+pub hart_mail : HartMailLaw
+hart_mail i d order r id below early = mailed i r d (harts i order) (running i r order below) id early
+
+pub hart_arrivals : ArrivalsLaw
+hart_arrivals i d order r id below early =
+    (joined i r d (harts i order) (running i r order below) id early).count
+
 pub hart_isolation : HartIsolationLaw
-hart_isolation i d order r id below early = isolated i r d (harts i order) (running i r order below) id early
+hart_isolation i d order r id none below early =
+    let was = running i r order below in
+    let s = harts i order in
+    mailed i r d s was id early ∙ quietly i r d s was none (slots_of (hart_of_domain i d) s)
 
 pub two_orders : TwoOrdersLaw
-two_orders i d one two r id below_one below_two same early late =
-    hart_isolation i d one r id below_one early ∙ ap (view_alone_on i d) same ∙ sym (hart_isolation i d two r id below_two late)
+two_orders i d one two r id none below_one below_two same early late =
+    hart_isolation i d one r id none below_one early ∙ ap (view_alone_on i d) same
+    ∙ sym (hart_isolation i d two r id none below_two late)
 
 -- of two images that agree for it
 pub two_runs : TwoRunLaw
-unfolding view_alone_on
-two_runs i j d one two r q id a below_one below_two same early late =
+unfolding view_mailed_on
+two_runs i j d one two r q id none a below_one below_two same early late =
     let is' : IsDomain j d = omega (arith, r.counted, q.counted, ap (λ (p : Public). p.domains) a.all) in
     let home : hart_of_domain i d ≡ hart_of_domain j d = ap (λ (p : Public). hart_for p.schedule d) a.all in
-    let here = hart_isolation i d one r id below_one early in
+    let here = hart_isolation i d one r id none below_one early in
+    let none' : HasNoMail j d = subst (λ (p : Public). All (λ box. box.1 ≢ d) p.mail) a.all none in
     let there =
-    hart_isolation j d two q is' below_two (subst (λ (h : ℕ). IsBetween j h (harts j two)) home late) in
+    hart_isolation j d two q is' none' below_two (subst (λ (h : ℕ). IsBetween j h (harts j two)) home late) in
     let slots : slots_of (hart_of_domain i d) (harts i one) ≡ slots_of (hart_of_domain j d) (harts j two) =
     same ∙ ap (λ (h : ℕ). slots_of h (harts j two)) home in
     here

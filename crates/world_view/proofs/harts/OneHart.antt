@@ -8,8 +8,8 @@ use Rattle.sched_table.specs.Schedule.{no_entry, entries_alone, on_hart, place_o
 use Rattle.sched_table.proofs.Harts.{one_hart_law, hart_there_law}
 use Rattle.image_check.specs.Public.{Public}
 use Rattle.image_check.specs.Image.{own_of}
-use Rattle.world_view.specs.View.{view_alone}
-use Rattle.world_view.specs.Harts.{public_on, hart_of_domain, view_alone_on}
+use Rattle.world_view.specs.View.{view_mailed}
+use Rattle.world_view.specs.Harts.{public_on, hart_of_domain, view_mailed_on}
 use Rattle.world_view.specs.HartLaws.{OneHartLaw}
 
 on_first : (es : List Entry) → harts_in es ≤ 1 → All (λ e. e.hart ≡ 0) es
@@ -39,7 +39,7 @@ all_on_first es one e below =
     ∙ zero-add e
 
 pub one_hart : OneHartLaw
-unfolding view_alone_on
+unfolding view_mailed_on
 one_hart i one =
     let es = i.all.schedule in
     let entries : public_on i.all 0 ≡ i.all = ap (λ (xs : List Entry). record i.all { schedule = xs }) (all_entries es one) in
@@ -47,7 +47,7 @@ one_hart i one =
     record {
       entries = entries;
       home = home;
-      alone = λ d n.
-          ap (λ (h : ℕ). view_alone (public_on i.all h) (own_of i d) d n) (home d)
-          ∙ ap (λ (p : Public). view_alone p (own_of i d) d n) entries;
+      mailed = λ d came n.
+          ap (λ (h : ℕ). view_mailed (public_on i.all h) (own_of i d) d came n) (home d)
+          ∙ ap (λ (p : Public). view_mailed p (own_of i d) d came n) entries;
     }

@@ -8,11 +8,14 @@ use Rattle.hardware_check.specs.Hardware.{Hardware}
 use Rattle.image_check.specs.Own.{Own}
 use Rattle.image_check.specs.Image.{Image, own_of}
 use Rattle.image_check.specs.Laws.{Runnable}
-use Rattle.sched_table.specs.Schedule.{harts_in}
-use Rattle.world_view.specs.Machine.{guarded, Hart, Local, World, hart_of, clock_of, part_of, setting, step, alone, alone_enter, alone_opening}
-use Rattle.world_view.specs.Relations.{IsDomain, Within}
+use Rattle.mail_slots.specs.Sides.{Arrival, arrival}
+use Rattle.world_view.specs.Mail.{left_boxes}
+use Rattle.world_view.proofs.runs.Quiet.{AreNone, left_pairs, nothing_arrives, enter_none, alone_quiet}
+use Rattle.sched_table.specs.Schedule.{outgoing, harts_in}
+use Rattle.world_view.specs.Machine.{guarded, Hart, Local, World, hart_of, clock_of, part_of, setting, step, arrivals, alone_mail, alone, alone_enter, alone_opening}
+use Rattle.world_view.specs.Relations.{IsDomain, HasNoMail, Within}
 use Rattle.world_view.specs.Harts.{Harts, Progress, image_on, domain_in, end_on, progress_of, slots_of, proceeds, begins, runs, goes_on, next, after, harts, next_by, after_by, harts_by, settles}
-use Rattle.world_view.specs.HartLaws.{AreHartsOf, events_of}
+use Rattle.world_view.specs.HartLaws.{AreHartsOf, HasNoMailOn, events_of}
 use Rattle.world_view.proofs.opening.Separate.{Separated}
 use Rattle.world_view.proofs.runs.Joined.{it_enters}
 use Rattle.world_view.proofs.harts.OnHart.{separated_on, hart_is}
@@ -41,7 +44,7 @@ module _ (i : Image) (h : ℕ) where
 
   -- the domain of slot k as the slot begins
   abbrev entered : ℕ → Local
-  entered k = alone_enter on.all (its k) k (alone on.all (its k) (domain_in i h k) k)
+  entered k = alone_enter on.all (its k) k [] (alone on.all (its k) (domain_in i h k) k)
 
   -- after an event of it
   abbrev stepped : ℕ → Local → Local
@@ -66,7 +69,7 @@ module _ (i : Image) (h : ℕ) where
   onward (suc n) x = onward n (moves x)
 
   pub first : Position
-  first = record { progress = record { slots = 0; inside = false }; local = alone_opening p (own_of i 0) }
+  first = record { progress = record { slots = 0; inside = false }; local = alone_opening on.all (own_of i 0) }
 
   -- ---- the hart is there
 
@@ -91,7 +94,7 @@ module _ (i : Image) (h : ℕ) where
   unfolding proceeds
   proceeds_at s w k b a near = record { progress = progress-same h s w k b; near = near }
 
-  module _ (r : Runnable i) (is : h < harts_in i.all.schedule) where
+  module _ (r : Runnable i) (is : h < harts_in i.all.schedule) (none : HasNoMailOn i h) where
     abbrev r_on : Separated on
     r_on = separated_on i r h is
 
@@ -109,8 +112,23 @@ module _ (i : Image) (h : ℕ) where
       id : IsDomain i d
       id = r_on.named k
 
-      met : (b : Bool) → (progress_of h s).inside ≡ b → Meets i h d b k (part_of h d s.world)
-      met b t = subst (λ (x : Bool). Meets i h d x k (part_of h d s.world)) t (here i r s was h d id (hart_is i r h is k))
+      met : (b : Bool) → (progress_of h s).inside ≡ b → Meets i h d (arrivals d s.world) b k (part_of h d s.world)
+      met b t = subst (λ (x : Bool). Meets i h d (arrivals d s.world) x k (part_of h d s.world)) t (here i r s was h d id (hart_is i r h is k))
+
+      -- no box leads to it
+      elsewhere : HasNoMail i d
+      elsewhere = none d (hart_is i r h is k)
+
+      -- so nothing comes with a switch
+      nothing_comes : (words : Arrival)
+          → words ≡ arrival d (left_boxes (outgoing on.all.schedule k) s.world.storage.boxes)
+          → alone_enter on.all (its k) k words (alone_mail on.all (its k) d (arrivals d s.world) k) ≡ entered k
+      nothing_comes words are =
+          enter_none on.all (its k) d k words (alone_mail on.all (its k) d (arrivals d s.world) k)
+          (subst AreNone (sym are) (nothing_arrives d _
+          (subst (λ (mail : List (ℕ × ℕ)). All (λ box. box.1 ≢ d) mail)
+          (sym (left_pairs (outgoing on.all.schedule k) s.world.storage.boxes ∙ was.pairs)) elsewhere)))
+          ∙ ap (alone_enter on.all (its k) k []) (alone_quiet on.all (its k) d (arrivals d s.world) k (was.quiet d elsewhere))
 
       its_hart : (b : Bool) → (progress_of h s).inside ≡ b → IsHart i b h k s.world
       its_hart b t = subst (λ (x : Bool). IsHart i x h k s.world) t (was.hart h is)
@@ -123,7 +141,8 @@ module _ (i : Image) (h : ℕ) where
           subst (λ (x : Harts). IsAt x (record { progress = record { slots = k; inside = true }; local = entered k }))
           (sym (begins_is i r h is s (its_hart false t)))
           (proceeds_at s (begun_world i h s) k true (entered k)
-          (it_enters on r_on d id h s.world k refl (its_hart false t) (met false t)))
+          (subst (Within p (its k) (part_of h d (begun_world i h s))) (nothing_comes _ refl)
+          (it_enters on r_on d id (arrivals d s.world) h s.world k refl (its_hart false t) (met false t).at)))
 
       ends_at : (b : Bool) (w : World) (a : Local) → Within p (its k) (part_of h d w) a
           → IsAt (if b then proceeds h s w k true else proceeds h s w (suc k) false) (ends_if b k a)
@@ -170,7 +189,7 @@ module _ (i : Image) (h : ℕ) where
             let left = (next_so i r g below s was).left (domain_in i h n) (r_on.named n) (λ q. other (q ∙ hart_is i r h is n)) in
             record {
               dom = left.dom;
-              part = record { frames = left.part.frames; sets = left.part.sets };
+              part = record { frames = left.part.frames; side = left.part.side; sets = left.part.sets };
               core = ap (λ (x : Hart). x.core) stays;
               clock = ap (λ (x : Hart). x.clock) stays;
             }

@@ -1,22 +1,29 @@
 -- What holds of an image's harts after every order of events.
-use Rattle.std.proofs.Common.{None, ◌≡◌, ◌≢◌, ℕ, Bool, true, false, true≢false, zero, suc, ◌+◌, ◌<◌, ◌≤◌, length, ◌++◌, ltb, ltb-true, ap, sym, ◌∙◌, refl, subst, arith, inl, inr, ◌⊎◌, List, [], ◌∷◌}
+use Rattle.std.proofs.Common.{Option, None, ◌≡◌, ◌≢◌, ℕ, Bool, true, false, true≢false, zero, suc, ◌+◌, ◌<◌, ◌≤◌, length, ◌++◌, ltb, ltb-true, ap, sym, ◌∙◌, refl, subst, arith, inl, inr, ◌⊎◌, List, [], ◌∷◌}
 use Rattle.std.specs.Prelude.{if◌then◌else◌}
 use Rattle.std.specs.List.{All}
 use Rattle.std.proofs.lemmas.Bool.{cases_eq, ltb-false}
-use Rattle.std.proofs.lemmas.List.Elements.{All-head, All-tail}
+use Rattle.std.proofs.lemmas.List.Elements.{All-head, All-tail, All-push}
 use Rattle.tp_base.specs.Table.{at-put_same, at-put_other, at-empty}
 use Rattle.mem_system.specs.Cost.{Core, Caches, cold}
 use Rattle.hardware_check.specs.Hardware.{Hardware}
 use Rattle.image_check.specs.Image.{Image, own_of}
 use Rattle.image_check.specs.Laws.{Runnable}
 use Rattle.sched_table.specs.declared.schedule.Entry.{Entry}
-use Rattle.sched_table.specs.Schedule.{entry_in, switch_entry, pad_of, place_on, harts_in}
+use Rattle.mail_slots.specs.Boxes.{Boxes}
+use Rattle.mail_slots.specs.Sides.{Arrival, arrival}
+use Rattle.mail_slots.specs.Laws.{pairs_of}
+use Rattle.mail_slots.proofs.Moves.{pairs_law}
+use Rattle.world_view.specs.Mail.{left_boxes, switched_boxes, came_to}
+use Rattle.world_view.proofs.runs.Arrivals.{one_more, none_more}
+use Rattle.world_view.proofs.runs.Quiet.{AreNone, left_pairs, nothing_arrives}
+use Rattle.sched_table.specs.Schedule.{outgoing, entry_in, switch_entry, pad_of, place_on, harts_in}
 use Rattle.sched_table.proofs.Harts.{hart_there_law}
 use Rattle.world_view.specs.Cost.{hierarchy}
-use Rattle.world_view.specs.Machine.{Hart, World, no_hart, hart_of, caches_of, clock_of, dom_of, part_of, with_part, with_hart, guarded, switch_on, cycles_on, no_harts, with_cold, opening}
+use Rattle.world_view.specs.Machine.{Hart, World, no_hart, hart_of, caches_of, clock_of, dom_of, part_of, with_part, with_hart, guarded, switch_on, cycles_on, no_harts, with_cold, opening, arrivals}
 use Rattle.world_view.specs.Used.{count_of}
 use Rattle.world_view.proofs.steps.CodeLaws.{count_of-push_same, count_of-push_other}
-use Rattle.world_view.specs.Relations.{IsDomain, Resident, KernelIsClean, HasFacts, InTime, Within, Apiece, AllWithinPads}
+use Rattle.world_view.specs.Relations.{IsDomain, HasNoMail, Resident, KernelIsClean, HasFacts, InTime, Within, Apiece, AllWithinPads}
 use Rattle.world_view.specs.Harts.{Harts, Progress, image_on, domain_in, end_on, hart_of_domain, progress_of, slots_of, switches_of, proceeds, begins, runs, goes_on, next, after, all_cold, harts, next_by, after_by, harts_by, settles}
 use Rattle.world_view.specs.HartLaws.{LeftAlone}
 use Rattle.world_view.specs.Laws.{opening_memory}
@@ -27,7 +34,7 @@ use Rattle.world_view.proofs.facts.ResidencyLaws.{boot_resident, switched_reside
 use Rattle.world_view.proofs.time.TimeLaws.{used_in_pad, within_append}
 use Rattle.world_view.proofs.runs.SwitchParts.{caches-with, clock-with}
 use Rattle.world_view.proofs.harts.OnHart.{separated_on, padded_on, placed_switch, not_here}
-use Rattle.world_view.proofs.harts.Events.{IsHart, IsInside, still, begun_world, begins_is, switched, switch_inside, switch_leaves, ran-caches, ran_clean, ran_resident, still_inside, now_over, step_leaves}
+use Rattle.world_view.proofs.harts.Events.{IsHart, IsInside, still, begun_world, begins_is, switched, switch_inside, switch_leaves, ran-caches, ran_clean, ran_resident, still_inside, now_over, step_leaves, step_pairs}
 use Rattle.world_view.proofs.harts.Meets.{Meets, still_meets, switch_meets, on_meets, over_meets}
 
 -- ---- before the first event
@@ -52,6 +59,11 @@ module _ (i : Image) where
   unfolding all_cold with_hart
   used_cold zero = refl
   used_cold (suc n) = used_cold n
+
+  pub came_cold : (n : ℕ) → (all_cold i n).came ≡ []
+  unfolding all_cold with_hart
+  came_cold zero = refl
+  came_cold (suc n) = came_cold n
 
   -- each hart's caches hold nothing, and its clock stands at 0
   pub record IsCold (h : ℕ) (w : World) : Type 0 where
@@ -109,7 +121,9 @@ module _ (i : Image) (r : Runnable i) where
     pub facts : AllBoth i all s.world
     pub hart : (h : ℕ) → h < many → IsHart i (progress_of h s).inside h (slots_of h s) s.world
     pub meets : (d : ℕ) → IsDomain i d → let h = hart_of_domain i d in
-        Meets i h d (progress_of h s).inside (slots_of h s) (part_of h d s.world)
+        Meets i h d (arrivals d s.world) (progress_of h s).inside (slots_of h s) (part_of h d s.world)
+    pub pairs : pairs_of s.world.storage.boxes ≡ i.all.mail
+    pub quiet : (d : ℕ) → HasNoMail i d → All AreNone (arrivals d s.world)
     pub shared : (s ≡ harts i []) ⊎ Resident p (caches_of 0 s.world)
     pub used : AllWithinPads i.all.schedule s.world.used
     pub counted : (e : ℕ) → e < length i.all.schedule
@@ -117,9 +131,9 @@ module _ (i : Image) (r : Runnable i) where
 
   -- a domain on its hart
   pub here : (s : Harts) → Running s → (h d : ℕ) → IsDomain i d → hart_of_domain i d ≡ h
-      → Meets i h d (progress_of h s).inside (slots_of h s) (part_of h d s.world)
+      → Meets i h d (arrivals d s.world) (progress_of h s).inside (slots_of h s) (part_of h d s.world)
   here s was h d id home =
-      subst (λ (x : ℕ). Meets i x d (progress_of x s).inside (slots_of x s) (part_of x d s.world)) home
+      subst (λ (x : ℕ). Meets i x d (arrivals d s.world) (progress_of x s).inside (slots_of x s) (part_of x d s.world)) home
       (was.meets d id)
 
   -- what an event of hart h comes to
@@ -128,7 +142,10 @@ module _ (i : Image) (r : Runnable i) where
     own : IsHart i b h k w
     clean : KernelIsClean p (caches_of h w)
     others : (g : ℕ) → g ≢ h → hart_of g w ≡ hart_of g s.world
-    meets : (d : ℕ) → IsDomain i d → hart_of_domain i d ≡ h → Meets i h d b k (part_of h d w)
+    meets : (d : ℕ) → IsDomain i d → hart_of_domain i d ≡ h → Meets i h d (arrivals d w) b k (part_of h d w)
+    came : (d : ℕ) → IsDomain i d → hart_of_domain i d ≢ h → arrivals d w ≡ arrivals d s.world
+    pairs : pairs_of w.storage.boxes ≡ i.all.mail
+    quiet : (d : ℕ) → HasNoMail i d → All AreNone (arrivals d w)
     left : (d : ℕ) → IsDomain i d → h ≢ hart_of_domain i d
         → Apiece p (own_of i d) (part_of h d w) (part_of h d s.world)
     shared : Resident p (caches_of 0 w)
@@ -163,21 +180,24 @@ module _ (i : Image) (r : Runnable i) where
         let left = did.left d id (λ q. other (sym home ∙ sym q)) in
         record {
           dom = left.dom;
-          part = record { frames = left.part.frames; sets = left.part.sets };
+          part = record { frames = left.part.frames; side = left.part.side; sets = left.part.sets };
           core = ap (λ (x : Hart). x.core) (did.others g other);
           clock = ap (λ (x : Hart). x.clock) (did.others g other);
         }
 
     meets_if : (d g : ℕ) → IsDomain i d → hart_of_domain i d ≡ g → (g ≡ h) ⊎ (g ≢ h)
-        → Meets i g d (progress_of g s).inside (slots_of g s) (part_of g d s.world)
-        → Meets i g d (progress_of g s').inside (slots_of g s') (part_of g d w)
+        → Meets i g d (arrivals d s.world) (progress_of g s).inside (slots_of g s) (part_of g d s.world)
+        → Meets i g d (arrivals d w) (progress_of g s').inside (slots_of g s') (part_of g d w)
     meets_if d g id home (inl same) m =
-        subst (λ (x : ℕ). Meets i x d (progress_of x s').inside (slots_of x s') (part_of x d w)) (sym same)
-        (subst (λ (x : Progress). Meets i h d x.inside x.slots (part_of h d w))
+        subst (λ (x : ℕ). Meets i x d (arrivals d w) (progress_of x s').inside (slots_of x s') (part_of x d w)) (sym same)
+        (subst (λ (x : Progress). Meets i h d (arrivals d w) x.inside x.slots (part_of h d w))
         (sym (progress-same h s w k b)) (did.meets d id (home ∙ same)))
     meets_if d g id home (inr other) m =
-        subst (λ (x : Progress). Meets i g d x.inside x.slots (part_of g d w)) (sym (progress-other g h s w k b other))
-        (still_meets i g d (progress_of g s).inside (slots_of g s) (part_of g d s.world) (part_of g d w) (part_still d g id home other) m)
+        subst (λ (x : Progress). Meets i g d (arrivals d w) x.inside x.slots (part_of g d w)) (sym (progress-other g h s w k b other))
+        (subst (λ (came : List Arrival). Meets i g d came (progress_of g s).inside (slots_of g s) (part_of g d w))
+        (sym (did.came d id (λ q. other (sym home ∙ q))))
+        (still_meets i g d (arrivals d s.world) (progress_of g s).inside (slots_of g s) (part_of g d s.world) (part_of g d w)
+        (part_still d g id home other) m))
 
     counted_if : (e g : ℕ) → e < length i.all.schedule → (entry_in i.all.schedule e).hart ≡ g
         → (g ≡ h) ⊎ (g ≢ h)
@@ -198,6 +218,8 @@ module _ (i : Image) (r : Runnable i) where
       facts = did.facts;
       hart = λ g l. hart_if g l (cases_eq g h);
       meets = λ d id. meets_if d (hart_of_domain i d) id refl (cases_eq (hart_of_domain i d) h) (was.meets d id);
+      pairs = did.pairs;
+      quiet = did.quiet;
       shared = inr did.shared;
       used = did.used;
       counted = λ e l. counted_if e _ l refl (cases_eq (entry_in i.all.schedule e).hart h);
@@ -218,7 +240,7 @@ module _ (i : Image) (r : Runnable i) where
 
   module _ (h : ℕ) (is : h < many) (s : Harts) (was : Running s) (outside : (progress_of h s).inside ≡ false)
       (time : InTime (image_on i h) h (slots_of h s) s.world)
-      (met : (d : ℕ) → IsDomain i d → hart_of_domain i d ≡ h → Meets i h d false (slots_of h s) (part_of h d s.world)) where
+      (met : (d : ℕ) → IsDomain i d → hart_of_domain i d ≡ h → Meets i h d (arrivals d s.world) false (slots_of h s) (part_of h d s.world)) where
     abbrev on : Image
     on = image_on i h
 
@@ -282,16 +304,48 @@ module _ (i : Image) (r : Runnable i) where
         count_of-push_other e place (cycles_on (guarded on) on h k s.world) s.world.used
         (λ q. other (ap (λ (n : ℕ). (entry_in i.all.schedule n).hart) (sym q) ∙ (placed_switch i r h is k).hart))
 
+    abbrev boxes : Boxes
+    boxes = s.world.storage.boxes
+
+    abbrev out : Option ℕ
+    out = outgoing on.all.schedule k
+
+    abbrev into : ℕ
+    into = domain_in i h k
+
+    -- each box leads from whom and to whom it led
+    switched_pairs : pairs_of (switched_boxes out into boxes) ≡ i.all.mail
+    switched_pairs = (pairs_law into (left_boxes out boxes)).begun ∙ left_pairs out boxes ∙ was.pairs
+
+    -- to a domain to which none leads nothing comes
+    quiet_if : (d : ℕ) → (into ≡ d) ⊎ (into ≢ d) → HasNoMail i d → All AreNone (arrivals d begun)
+    unfolding switch_on with_hart
+    quiet_if d (inl same) none =
+        subst (λ (came : List Arrival). All AreNone came)
+        (sym (one_more d s.world.came (came_to out into boxes) same))
+        (All-push AreNone (arrivals d s.world) (arrival into (left_boxes out boxes)) (was.quiet d none)
+        (nothing_arrives into (left_boxes out boxes)
+        (subst (λ (mail : List (ℕ × ℕ)). All (λ box. box.1 ≢ into) mail) (sym (left_pairs out boxes ∙ was.pairs))
+        (subst (HasNoMail i) (sym same) none))))
+    quiet_if d (inr other) none =
+        subst (λ (came : List Arrival). All AreNone came) (sym (none_more d s.world.came (came_to out into boxes) other)) (was.quiet d none)
+
+    begun_quiet : (d : ℕ) → HasNoMail i d → All AreNone (arrivals d begun)
+    begun_quiet d none = quiet_if d (cases_eq into d) none
+
     begins_so : Happened h s begun k true
     unfolding switch_on with_hart
     begins_so =
         let inside = switch_inside i r h is k s.world time in
         record {
-          facts = λ d id. was.facts d id;
+          facts = λ d id. let its = was.facts d id in record { facts = its.facts; rights = its.rights };
           own = record { begun = inside.begun; soon = inside.soon; ways = inside.ways; dirty = inside.dirty; clean = inside.clean };
           clean = inside.clean;
           others = λ g other. at-put_other no_hart s.world.harts h g _ other;
           meets = λ d id home. switch_meets i h d r is id k s.world time (met d id home);
+          came = λ d id other. none_more d s.world.came (came_to out into boxes) (λ q. not_here i r h is k d (λ p. other (sym p)) (sym q));
+          pairs = switched_pairs;
+          quiet = begun_quiet;
           left = λ d id other. switch_leaves i r h is k d s.world id other time;
           shared = begun_resident was.shared;
           used = within_append i.all.schedule s.world.used _ was.used (in_pad, tt);
@@ -306,7 +360,7 @@ module _ (i : Image) (r : Runnable i) where
 
   module _ (h : ℕ) (is : h < many) (s : Harts) (was : Running s) (within : (progress_of h s).inside ≡ true)
       (inside : IsInside i h (slots_of h s) s.world)
-      (met : (d : ℕ) → IsDomain i d → hart_of_domain i d ≡ h → Meets i h d true (slots_of h s) (part_of h d s.world))
+      (met : (d : ℕ) → IsDomain i d → hart_of_domain i d ≡ h → Meets i h d (arrivals d s.world) true (slots_of h s) (part_of h d s.world))
       (there : Resident p (caches_of 0 s.world)) where
     abbrev slot : ℕ
     slot = slots_of h s
@@ -323,6 +377,18 @@ module _ (i : Image) (r : Runnable i) where
     ran_facts : AllBoth i all ran
     unfolding runs guarded
     ran_facts = step_keeps_all i all (guarded i) h d0 (end_on i h slot) s.world ((separated_on i r h is).named slot) was.facts
+
+    -- an event moves no box, and nothing comes
+    ran_came : (d : ℕ) → arrivals d ran ≡ arrivals d s.world
+    unfolding runs with_part with_hart guarded
+    ran_came d = refl
+
+    ran_pairs : pairs_of ran.storage.boxes ≡ i.all.mail
+    unfolding runs with_part with_hart guarded
+    ran_pairs = step_pairs i r h is slot s.world inside facts0 ∙ was.pairs
+
+    ran_quiet : (d : ℕ) → HasNoMail i d → All AreNone (arrivals d ran)
+    ran_quiet d none = subst (λ (came : List Arrival). All AreNone came) (sym (ran_came d)) (was.quiet d none)
 
     ran_others : (g : ℕ) → g ≢ h → hart_of g ran ≡ hart_of g s.world
     unfolding runs with_part with_hart guarded
@@ -368,6 +434,9 @@ module _ (i : Image) (r : Runnable i) where
       clean = ran_clean_here;
       others = ran_others;
       meets = λ d id home. on_meets i h d r is id slot s.world inside facts0 there (met d id home);
+      came = λ d id other. ran_came d;
+      pairs = ran_pairs;
+      quiet = ran_quiet;
       left = ran_left;
       shared = ran_shared;
       used = ran_used;
@@ -380,6 +449,9 @@ module _ (i : Image) (r : Runnable i) where
       clean = ran_clean_here;
       others = ran_others;
       meets = λ d id home. over_meets i h d r is id slot s.world inside facts0 there (ltb-false _ _ t) (met d id home);
+      came = λ d id other. ran_came d;
+      pairs = ran_pairs;
+      quiet = ran_quiet;
       left = ran_left;
       shared = ran_shared;
       used = ran_used;
@@ -408,11 +480,11 @@ module _ (i : Image) (r : Runnable i) where
       → Next h s (if b then goes_on None i h s else begins None i h s)
   next_if h l s was true t =
       goes_next h l s was t (subst (λ (b : Bool). IsHart i b h (slots_of h s) s.world) t (was.hart h l))
-      (λ d id home. subst (λ (b : Bool). Meets i h d b (slots_of h s) (part_of h d s.world)) t (here s was h d id home))
+      (λ d id home. subst (λ (b : Bool). Meets i h d (arrivals d s.world) b (slots_of h s) (part_of h d s.world)) t (here s was h d id home))
       (there_if h s t was.shared)
   next_if h l s was false t =
       begins_next h l s was t (subst (λ (b : Bool). IsHart i b h (slots_of h s) s.world) t (was.hart h l))
-      (λ d id home. subst (λ (b : Bool). Meets i h d b (slots_of h s) (part_of h d s.world)) t (here s was h d id home))
+      (λ d id home. subst (λ (b : Bool). Meets i h d (arrivals d s.world) b (slots_of h s) (part_of h d s.world)) t (here s was h d id home))
 
   pub next_so : (h : ℕ) → h < many → (s : Harts) → Running s → Next h s (next i h s)
   unfolding next_by

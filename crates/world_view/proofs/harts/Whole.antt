@@ -1,5 +1,6 @@
 -- Where an image has one hart, the machine that goes from slot to slot is the one that goes from event to event, whichever guards are on.
-use Rattle.std.proofs.Common.{◌≡◌, ◌∙◌, ℕ, zero, suc, ◌+◌, ◌-◌, ◌<◌, ◌≤◌, Bool, true, false, List, [], ◌∷◌, ◌++◌, length, Option, None, Some, inl, inr, ap, ap₂, sym, subst, refl, arith, ltb, ltb-true}
+use Rattle.world_view.specs.Mail.{Came, switched_boxes, came_to}
+use Rattle.std.proofs.Common.{◌≡◌, ◌∙◌, ℕ, zero, suc, ◌+◌, ◌-◌, ◌<◌, ◌≤◌, Bool, true, false, List, [], ◌∷◌, ◌++◌, Option, None, Some, inl, inr, ap, ap₂, sym, subst, refl, arith, ltb, ltb-true}
 use Rattle.std.specs.Prelude.{if◌then◌else◌}
 use Rattle.std.specs.List.{All}
 use Rattle.std.proofs.lemmas.Bool.{cases_eq, ltb-false}
@@ -34,6 +35,7 @@ same_trans u v w h k = record {
   caches = h.caches ∙ k.caches;
   clock = h.clock ∙ k.clock;
   used = h.used ∙ k.used;
+  came = h.came ∙ k.came;
 }
 
 -- what is done to a domain, on worlds that are the same
@@ -50,6 +52,7 @@ same_part w v d a b h same = record {
   caches = ap (λ (x : Local). x.caches) same;
   clock = ap (λ (x : Local). x.clock) same;
   used = h.used;
+  came = h.came;
 }
 
 part_is : (w v : World) (d : ℕ) → SameWorld w v → part_of 0 d w ≡ part_of 0 d v
@@ -71,6 +74,7 @@ same_put w d = record {
   caches = refl;
   clock = refl;
   used = refl;
+  came = refl;
 }
 
 -- what is put twice, the second time on what is the same
@@ -89,12 +93,13 @@ same_twice w d a b = record {
   caches = refl;
   clock = refl;
   used = refl;
+  came = refl;
 }
 
 -- when a slot ended is told nobody
 same_end : (w : World) (end : ℕ) → SameWorld (with_end 0 w end) w
 unfolding with_end at put
-same_end w end = record { doms = λ d. refl; storage = refl; caches = refl; clock = refl; used = refl }
+same_end w end = record { doms = λ d. refl; storage = refl; caches = refl; clock = refl; used = refl; came = refl }
 
 same_sym : (w v : World) → SameWorld w v → SameWorld v w
 same_sym w v h = record {
@@ -103,10 +108,11 @@ same_sym w v h = record {
   caches = sym h.caches;
   clock = sym h.clock;
   used = sym h.used;
+  came = sym h.came;
 }
 
 same_refl : (w : World) → SameWorld w w
-same_refl w = record { doms = λ d. refl; storage = refl; caches = refl; clock = refl; used = refl }
+same_refl w = record { doms = λ d. refl; storage = refl; caches = refl; clock = refl; used = refl; came = refl }
 
 -- ---- what is left of a slot
 
@@ -299,7 +305,11 @@ module _ (off : Option Guard) (i : Image) (r : Runnable i) (one : IsOnOneHart i)
   unfolding switch_by switch_on with_hart at put
   switch_same k w h = record {
     doms = h.same.doms;
-    storage = h.same.storage;
+    storage =
+        ap (λ (s : Storage). record s { boxes = switched_boxes (outgoing i.all.schedule k) (its k) s.boxes }) h.same.storage;
+    came =
+        ap₂ (λ (xs : List Came) (s : Storage). xs ++ came_to (outgoing i.all.schedule k) (its k) s.boxes ∷ []) h.same.came
+        h.same.storage;
     caches = ap (λ (c : Caches). (work k c).caches) h.same.caches;
     clock = ap₂ (λ (c : Caches) (t : ℕ). begins_by g i k (t + (work k c).cost)) h.same.caches h.same.clock;
     used =

@@ -1,11 +1,13 @@
 -- Which moments are delivered, when, and in whose slots.
+use Rattle.phys_mem.specs.Mem.{Mem}
+use Rattle.call_table.proofs.MailCalls.{after_called}
 use Rattle.std.proofs.Common.{◌≡◌, ℕ, ◌+◌, ◌≤◌, Bool, true, false, length, ◌⊎◌, inl, inr, ap, ◌∙◌, refl, arith}
 use Rattle.std.proofs.lemmas.Option.{slice_get_within}
 use Rattle.tp_base.specs.Act.{either}
 use Rattle.hardware_check.specs.Hardware.{Hardware}
 use Rattle.image_check.specs.Own.{Own}
 use Rattle.call_table.specs.Domain as domain
-use Rattle.call_table.specs.Domain.{Dom, is_running, placed}
+use Rattle.call_table.specs.Domain.{Dom, is_running, placed, replied}
 use Rattle.call_table.proofs.ThreadLaws.{delivery_counts, call_counts}
 use Rattle.world_view.specs.Kernel.{estate, layout, opening_dom}
 use Rattle.world_view.specs.Instruction.{stopped, retired_at}
@@ -23,11 +25,12 @@ module _ (p : Hardware) (o : Own) where
   -- an instruction delivers nothing
   instruction_delivers : (t : ℕ) (d : Dom) (s : Storage)
       → (either (instruction p (estate p o) (layout p o) t d s).value).delivered ≡ d.delivered
-  unfolding stopped retired_at placed
+  unfolding stopped retired_at placed replied
   instruction_delivers t d s =
       leaves p (estate p o) (layout p o) d (λ (x : Dom). x.delivered ≡ d.delivered) (λ code value. refl)
       (λ pc value regs i. noted_delivered i value d)
-      (λ m. call_counts (estate p o) d m) t s
+      (λ r. after_called (estate p o) d (λ (x : Dom) (m : Mem). x.delivered ≡ d.delivered) r (λ code. refl) (λ value. refl)
+      (call_counts (estate p o) d r.mem)) t s
 
   -- no moment is delivered, or the next one, which is due
   abbrev pub Delivers : Local → Local → Type 0

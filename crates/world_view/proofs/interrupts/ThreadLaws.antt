@@ -1,4 +1,6 @@
 -- Whose turn it is at each moment, and what wakes a thread that waits.
+use Rattle.call_table.specs.Mail.{called}
+use Rattle.call_table.proofs.MailCalls.{after_called}
 use Rattle.std.proofs.Common.{◌≡◌, ◌≢◌, ℕ, ◌+◌, ◌<◌, true, false, true≢false, List, Some, ◌⊎◌, inl, inr, ap, sym, ◌∙◌, refl, subst}
 use Rattle.std.specs.Prelude.{slice_get}
 use Rattle.std.proofs.lemmas.Bool.{cases_eq}
@@ -89,6 +91,18 @@ call_goes_on e d m h may = record {
   ];
 }
 
+-- a reply leaves it to the current thread to go on
+replied_goes_on : (e : Estate) (d : Dom) (code value : ℕ) → HasTurn d.threads → MayRun d
+    → GoesOn e d (domain.replied code value d)
+unfolding domain.replied placed
+replied_goes_on e d code value h may = current_goes_on e d h may (domain.replied code value d) _ refl refl
+
+called_goes_on : (e : Estate) (d : Dom) (s : Storage) → HasTurn d.threads → MayRun d
+    → GoesOn e d (either (called e d s).value)
+called_goes_on e d s h may =
+    after_called e d (λ (x : Dom) (m : Mem). GoesOn e d x) s (λ code. replied_goes_on e d code 0 h may)
+    (λ value. replied_goes_on e d 0 value h may) (call_goes_on e d s.mem h may)
+
 -- ---- an event
 
 module _ (p : Hardware) (o : Own) where
@@ -96,7 +110,7 @@ module _ (p : Hardware) (o : Own) where
       → GoesOn (estate p o) d (either (instruction p (estate p o) (layout p o) t d s).value)
   instruction_goes_on t d s h may =
       leaves p (estate p o) (layout p o) d (GoesOn (estate p o) d) (stopped_goes_on (estate p o) d h may)
-      (retired_goes_on (estate p o) d h may) (λ m. call_goes_on (estate p o) d m h may) t s
+      (retired_goes_on (estate p o) d h may) (λ r. called_goes_on (estate p o) d r h may) t s
 
   happened_turn : (s : Local) (e : Event) → Fits o s.clock s.dom e → HasTurn s.dom.threads
       → HasTurn (happened (setting p o false) s e).dom.threads

@@ -356,7 +356,7 @@ module _ (i : Image) (r : Separated i) where
 
   pub opening_frames : (d : ℕ) → IsDomain i d
       → SameFrames i.all.hardware (own_of i d) (opening i).storage.mem
-      (alone_opening i.all.hardware (own_of i d)).storage.mem
+      (alone_opening i.all (own_of i d)).storage.mem
   unfolding opening alone_opening with_hart at put
   opening_frames d is f own =
       let p = i.all.hardware in

@@ -113,6 +113,6 @@ opening_both i r d is =
     record {
       facts = opening_facts i r d is;
       rights =
-          rights_same p o (opening_dom p o) (alone_opening p o).storage (opening i).storage (opening_frames i r d is)
+          rights_same p o (opening_dom p o) (alone_opening i.all o).storage (opening i).storage (opening_frames i r d is)
           (record { facts = placed_facts p o enough sound empty; rights = placed_rights p o enough sound empty });
     }

@@ -1,4 +1,5 @@
 -- What another party does, or is done for it, leaves a party's frames and sets, where the dirty lines are the other's.
+use Rattle.mail_slots.proofs.Sides.{others_law}
 use Rattle.std.proofs.Common.{◌≡◌, ℕ, Bool, true, false, IsTrue, true≢false, sym, ◌∙◌, refl, subst}
 use Rattle.phys_mem.specs.Mem.{Mem, frame_at}
 use Rattle.mem_system.specs.Cost.{Caches}
@@ -16,7 +17,7 @@ use Rattle.world_view.proofs.opening.Separate.{frames_apart}
 use Rattle.world_view.proofs.touches.Hierarchies.{some_data}
 use Rattle.world_view.proofs.touches.KernelTouches.{leave_may, enter_may}
 use Rattle.world_view.proofs.touches.CostLaws.{others_touches, prefetch_others, flush_others, settled_own}
-use Rattle.world_view.proofs.steps.StepLaws.{step_keeps, step_may, step_caches}
+use Rattle.world_view.proofs.steps.StepLaws.{keeps_itself, step_keeps, step_may, step_caches}
 
 -- a colour of the other's is none of its own
 unnamed : (b : Bool) {c : Bool} → (IsTrue b → c ≡ false) → IsTrue c → b ≡ false
@@ -44,9 +45,10 @@ others_frames p o other parties m k outside f own = outside f (party_frames p o 
 pub others_step : OthersStepLaw
 others_step p o other end s parties facts dirty =
     let its = parties.others_kernel in
-    let kept = step_keeps p other its false end s.storage s (record { facts = facts; outside = λ f out. refl }) in
+    let kept = step_keeps p other its false end s.storage s (keeps_itself p other s facts) in
     record {
       frames = others_frames p o other parties (step (setting p other false) end s).storage.mem s.storage.mem kept.outside;
+      side = others_law o.number other.number _ _ parties.numbers kept.others;
       sets = subst (λ (c : Caches). SameSets p o c s.caches) (sym (step_caches p other false end s))
           (others_touches p o other parties (step_touches p other end s) s.caches (step_may p other its end s facts) dirty);
     }
@@ -54,7 +56,14 @@ others_step p o other end s parties facts dirty =
 -- equal to a state that is equal to a third
 pub part_trans : (p : Hardware) (o : Own) (s t a : Local) → SamePart p o s t → SamePart p o t a
     → SamePart p o s a
-part_trans p o s t a h k = record { frames = λ f own. h.frames f own ∙ k.frames f own; sets = λ m own. h.sets m own ∙ k.sets m own }
+part_trans p o s t a h k = record {
+  frames = λ f own. h.frames f own ∙ k.frames f own;
+  side = h.side ∙ k.side;
+  sets = λ m own. h.sets m own ∙ k.sets m own;
+}
+
+pub part_itself : (p : Hardware) (o : Own) (s : Local) → SamePart p o s s
+part_itself p o s = record { frames = λ f own. refl; side = refl; sets = λ m own. refl }
 
 -- ---- phases of a switch
 

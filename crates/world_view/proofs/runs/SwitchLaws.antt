@@ -1,4 +1,8 @@
 -- What a switch does to a domain: out of it, into it, and between others.
+use Rattle.mail_slots.specs.Boxes.{Boxes}
+use Rattle.mail_slots.specs.Sides.{arrival}
+use Rattle.world_view.specs.Mail.{left_boxes}
+use Rattle.world_view.proofs.runs.BoxLaws.{others_leave_boxes, own_leave_boxes, others_enter_boxes, own_enters_boxes}
 use Rattle.std.proofs.Common.{◌≡◌, ◌≢◌, ℕ, zero, suc, Bool, true, false, [], Option, Some, ap, sym, ◌∙◌, refl, subst}
 use Rattle.set_cache.specs.Cache.{set_at}
 use Rattle.set_cache.proofs.Dirty.{EachDirty-empty}
@@ -12,9 +16,9 @@ use Rattle.mem_system.specs.Sharing.{IsOwnLine, AreApart, BesideTouched}
 use Rattle.sched_table.specs.Schedule.{entry_of_slot, outgoing}
 use Rattle.world_view.specs.Kernel.{layout}
 use Rattle.world_view.specs.Cost.{hierarchy, region, own_colour}
-use Rattle.world_view.specs.Machine.{with_hart, caches_of, Local, World, leave_part, prefetch_part, flush_part, enter_part, leave_by, prefetch_by, flush_by, switch_work_by, switch_work, guarded, dom_of, part_of, switch_on, alone_enter, alone_out}
+use Rattle.world_view.specs.Machine.{with_hart, with_mail, caches_of, Local, World, leave_part, prefetch_part, flush_part, enter_part, leave_by, prefetch_by, flush_by, switch_work_by, switch_work, guarded, dom_of, part_of, switch_on, alone_enter, alone_out}
 use Rattle.world_view.specs.Laws.{SwitchWorkLaw, BootWorkLaw}
-use Rattle.world_view.specs.Relations.{IsDomain, SameFrames, SameSets, OwnDirty, IsKernel, AreParties, left_colours, Within, Apiece, InTime}
+use Rattle.world_view.specs.Relations.{IsDomain, SameFrames, SameSide, SameSets, OwnDirty, IsKernel, AreParties, left_colours, Within, Apiece, InTime}
 use Rattle.world_view.proofs.opening.Separate.{Separated}
 use Rattle.world_view.proofs.opening.OpeningFacts.{kernel_of, parties_of}
 use Rattle.world_view.proofs.touches.KernelTouches.{leave_may, enter_may}
@@ -134,16 +138,37 @@ module _ (i : Image) (r : Separated i) (d : ℕ) (is : IsDomain i d) where
       (prepared_dirty p (own_colour (own_of i n)) (leave_by (guarded i) i out c).caches) s own
 
 module _ (i : Image) (r : Separated i) (h k d : ℕ) (is : IsDomain i d) (w : World) (a : Local) where
-  -- into another, after whatever left the caches so
+  -- the boxes after the leave
+  abbrev boxes_left : Boxes
+  boxes_left = left_boxes (outgoing i.all.schedule k) w.storage.boxes
+
+  -- into another, after whatever left the caches and boxes so
   switch_away : (entry_of_slot i.all.schedule k).domain ≢ d → (dom_of w d ≡ a.dom)
       → SameFrames i.all.hardware (own_of i d) w.storage.mem a.storage.mem
+      → SameSide (own_of i d) boxes_left a.storage.boxes
       → SameSets i.all.hardware (own_of i d) (left i r d is (outgoing i.all.schedule k) (caches_of h w)) a.caches
       → Apiece i.all.hardware (own_of i d) (part_of h d (switch_on (guarded i) i h k w)) a
   unfolding switch_on guarded with_hart
-  switch_away other dom frames same =
+  switch_away other dom frames side same =
       let es = i.all.schedule in
       let past = others_entered i r d is (entry_of_slot es k).domain (outgoing es k) (caches_of h w) (r.named k) other in
-      record { dom = dom; part = record { frames = frames; sets = λ s own. past s own ∙ same s own } }
+      record {
+        dom = dom;
+        part = record {
+          frames = frames;
+          side =
+              others_enter_boxes d (own_of i d).number (r.numbered d is) (entry_of_slot es k).domain boxes_left other
+              ∙ side;
+          sets = λ s own. past s own ∙ same s own;
+        };
+      }
+
+  -- of its side nothing, where another leaves
+  left_by_others : outgoing i.all.schedule k ≢ Some d → Apiece i.all.hardware (own_of i d) (part_of h d w) a
+      → SameSide (own_of i d) boxes_left a.storage.boxes
+  left_by_others out near =
+      others_leave_boxes d (own_of i d).number (r.numbered d is) (outgoing i.all.schedule k) w.storage.boxes out
+      ∙ near.part.side
 
   -- a switch between others
   pub switch_past : InTime i h k w → outgoing i.all.schedule k ≢ Some d
@@ -151,16 +176,18 @@ module _ (i : Image) (r : Separated i) (h k d : ℕ) (is : IsDomain i d) (w : Wo
       → Apiece i.all.hardware (own_of i d) (part_of h d w) a
       → Apiece i.all.hardware (own_of i d) (part_of h d (switch_on (guarded i) i h k w)) a
   switch_past time out other near =
-      switch_away other near.dom near.part.frames
+      switch_away other near.dom near.part.frames (left_by_others out near)
       (λ s own. others_left i r d is k (caches_of h w) out time.dirty s own ∙ near.part.sets s own)
 
-  -- into it, after whatever left the caches so
+  -- into it, after whatever left the caches and boxes so
   switch_to : InTime i h k w → (entry_of_slot i.all.schedule k).domain ≡ d → (dom_of w d ≡ a.dom)
       → SameFrames i.all.hardware (own_of i d) w.storage.mem a.storage.mem
+      → SameSide (own_of i d) boxes_left a.storage.boxes
       → SameSets i.all.hardware (own_of i d) (left i r d is (outgoing i.all.schedule k) (caches_of h w)) a.caches
-      → Within i.all.hardware (own_of i d) (part_of h d (switch_on (guarded i) i h k w)) (alone_enter i.all (own_of i d) k a)
+      → Within i.all.hardware (own_of i d) (part_of h d (switch_on (guarded i) i h k w))
+      (alone_enter i.all (own_of i d) k (arrival d boxes_left) a)
   unfolding switch_on guarded alone_enter left with_hart
-  switch_to time e dom frames same =
+  switch_to time e dom frames side same =
       let p = i.all.hardware in
       let out = outgoing i.all.schedule k in
       let n = entered p (own_of i d) (kernel_of i r d is) (leave_by (guarded i) i out (caches_of h w)).caches a.caches same in
@@ -170,19 +197,23 @@ module _ (i : Image) (r : Separated i) (h k d : ℕ) (is : IsDomain i d) (w : Wo
         dom = dom;
         part = record {
           frames = frames;
+          side =
+              own_enters_boxes d (own_of i d).number (r.numbered d is) (entry_of_slot i.all.schedule k).domain boxes_left
+              a.storage.boxes e side;
           sets =
               λ s own. ap (λ (c : Caches). set_at (hierarchy p).l2.ways c.l2 s) work ∙ n.caches.l2.same s own;
         };
-        core = ap (λ (c : Caches). c.core) (caches-with h w _ _ ∙ work) ∙ n.caches.core;
+        core = ap (λ (c : Caches). c.core) (caches-with h (with_mail out (entry_of_slot i.all.schedule k).domain w) _ _ ∙ work) ∙ n.caches.core;
         clock = switch_on_start i r h k w (r.padded k) time;
       }
 
   pub switch_in : InTime i h k w → outgoing i.all.schedule k ≢ Some d
       → (entry_of_slot i.all.schedule k).domain ≡ d
       → Apiece i.all.hardware (own_of i d) (part_of h d w) a
-      → Within i.all.hardware (own_of i d) (part_of h d (switch_on (guarded i) i h k w)) (alone_enter i.all (own_of i d) k a)
+      → Within i.all.hardware (own_of i d) (part_of h d (switch_on (guarded i) i h k w))
+      (alone_enter i.all (own_of i d) k (arrival d boxes_left) a)
   switch_in time out e near =
-      switch_to time e near.dom near.part.frames
+      switch_to time e near.dom near.part.frames (left_by_others out near)
       (λ s own. others_left i r d is k (caches_of h w) out time.dirty s own ∙ near.part.sets s own)
 
 -- from it to another
@@ -194,6 +225,7 @@ pub switch_out : (i : Image) (r : Separated i) (h k d : ℕ) (is : IsDomain i d)
 unfolding alone_out
 switch_out i r h k d is w a time out other near =
     switch_away i r h k d is w (alone_out i.all.hardware (own_of i d) a) other near.dom near.part.frames
+    (own_leave_boxes d (own_of i d).number (r.numbered d is) (outgoing i.all.schedule k) w.storage.boxes a.storage.boxes out near.part.side)
     (own_left i r d is k (caches_of h w) a out near.core time.dirty near.part.sets)
 
 -- from it to itself
@@ -202,8 +234,10 @@ pub switch_both : (i : Image) (r : Separated i) (h k d : ℕ) (is : IsDomain i d
     → outgoing i.all.schedule k ≡ Some d → (entry_of_slot i.all.schedule k).domain ≡ d
     → Within i.all.hardware (own_of i d) (part_of h d w) a
     → Within i.all.hardware (own_of i d) (part_of h d (switch_on (guarded i) i h k w))
-    (alone_enter i.all (own_of i d) k (alone_out i.all.hardware (own_of i d) a))
+    (alone_enter i.all (own_of i d) k (arrival d (left_boxes (outgoing i.all.schedule k) w.storage.boxes))
+    (alone_out i.all.hardware (own_of i d) a))
 unfolding alone_out
 switch_both i r h k d is w a time out e near =
     switch_to i r h k d is w (alone_out i.all.hardware (own_of i d) a) time e near.dom near.part.frames
+    (own_leave_boxes d (own_of i d).number (r.numbered d is) (outgoing i.all.schedule k) w.storage.boxes a.storage.boxes out near.part.side)
     (own_left i r d is k (caches_of h w) a out near.core time.dirty near.part.sets)

@@ -1,5 +1,5 @@
 -- The whole machine beside each domain alone, slot after slot.
-use Rattle.std.proofs.Common.{◌≡◌, ◌≢◌, ℕ, suc, ◌-◌, ◌<◌, length, get_or, List, [], ◌∷◌, ap, ap₂, ◌∙◌, refl, arith, true≢false, map}
+use Rattle.std.proofs.Common.{◌≡◌, ℕ, suc, ◌<◌, length, get_or, List, [], ◌∷◌, ap, ap₂, refl, arith, map}
 use Rattle.hardware_check.specs.Hardware.{Hardware}
 use Rattle.image_check.specs.Own.{Own}
 use Rattle.world_view.specs.Frames.{pool}

@@ -1,4 +1,5 @@
 -- What a step leaves of the domain and of memory depends neither on the caches' sizes nor on which kernel clone works for it.
+use Rattle.mail_slots.specs.Sides.{others_side}
 use Rattle.std.proofs.Common.{◌≡◌, ℕ, Bool, false, Option, Some, None, ◌⊎◌, inl, inr, refl, sym, ap, subst₂, ◌∙◌}
 use Rattle.tp_base.specs.Act.{Done, go_on, ◌>>=◌, ◌>>◌, either}
 use Rattle.phys_mem.specs.Mem.{frame_at}
@@ -103,6 +104,7 @@ module _ (p : Hardware) (o : Own) (h : Hierarchy) (l : Layout) (b : Bool) where
       record {
         facts = subst₂ (λ (d : Dom) (t : Storage). HasFacts p o d t) (sym n.0) (sym n.1) k.facts;
         outside = λ f out. ap (λ (t : Storage). frame_at t.mem f) n.1 ∙ k.outside f out;
+        others = ap (λ (t : Storage). others_side o.number t.boxes) n.1 ∙ k.others;
       }
 
   pub steps_keep_so : IsKernel p o → (end n : ℕ) (first : Storage) (s : Local) → Keeps p o first s

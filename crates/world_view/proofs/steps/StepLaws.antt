@@ -1,5 +1,6 @@
 -- Steps of the domain from states that are beside give states that are beside, at equal cost.
-use Rattle.std.proofs.Common.{◌≡◌, ℕ, Bool, true, false, ◌+◌, ◌-◌, ◌⊎◌, inl, inr, length, Option, Some, None, List, ap, sym, refl, subst, subst₂}
+use Rattle.mail_slots.specs.Sides.{others_side}
+use Rattle.std.proofs.Common.{◌≡◌, ℕ, Bool, true, false, ◌+◌, ◌⊎◌, inl, inr, length, Option, Some, None, List, ap, sym, refl, subst, subst₂}
 use Rattle.tp_base.specs.Act.{either}
 use Rattle.phys_mem.specs.Mem.{frame_at}
 use Rattle.hardware_check.specs.Hardware.{Hardware}
@@ -113,10 +114,14 @@ step_caches p o pinned end s = caches_if p o pinned s (event o s.clock end s.dom
 
 -- ---- one machine's steps, whatever its caches hold
 
--- the domain's facts hold, and outside its frames memory is as at first
+-- the domain's facts hold; outside its frames memory is as at first, and so are the boxes but for its side of them
 pub record Keeps (p : Hardware) (o : Own) (first : Storage) (s : Local) : Type 0 where
   pub facts : HasFacts p o s.dom s.storage
   pub outside : (f : ℕ) → own_frame p o f ≡ false → frame_at s.storage.mem f ≡ frame_at first.mem f
+  pub others : others_side o.number s.storage.boxes ≡ others_side o.number first.boxes
+
+pub keeps_itself : (p : Hardware) (o : Own) (s : Local) → HasFacts p o s.dom s.storage → Keeps p o s.storage s
+keeps_itself p o s facts = record { facts = facts; outside = λ f out. refl; others = refl }
 
 module _ (p : Hardware) (o : Own) (kernel : IsKernel p o) where
   -- an instruction beside itself
@@ -126,12 +131,12 @@ module _ (p : Hardware) (o : Own) (kernel : IsKernel p o) where
       (instruction p (estate p o) (layout p o) t s.dom s.storage)
   ran t first s h =
       (instruction_near p o kernel s.dom first t).runs s.storage s.storage
-      (record { same = λ f own. refl; outside = h.outside }) h.facts
+      (record { same = λ f own. refl; outside = h.outside; side = refl; others = h.others }) h.facts
 
   -- it touches what it may
   pub may_run : (t : ℕ) (s : Local) → HasFacts p o s.dom s.storage
       → MayAll p o (instruction p (estate p o) (layout p o) t s.dom s.storage).notes
-  may_run t s facts = (ran t s.storage s (record { facts = facts; outside = λ f out. refl })).may
+  may_run t s facts = (ran t s.storage s (keeps_itself p o s facts)).may
 
   touches_if : (s : Local) (e : Event) → HasFacts p o s.dom s.storage → MayAll p o (event_touches p o s e)
   touches_if s (Jump t) facts = tt
@@ -145,8 +150,12 @@ module _ (p : Hardware) (o : Own) (kernel : IsKernel p o) where
   keeps_if : (pinned : Bool) (first : Storage) (s : Local) (e : Event) → Keeps p o first s
       → Keeps p o first (happened (setting p o pinned) s e)
   unfolding happened paid delivered
-  keeps_if pinned first s (Jump t) h = record { facts = h.facts; outside = h.outside }
-  keeps_if pinned first s (Deliver line) h = record { facts = delivered_facts p o line s.dom s.storage h.facts; outside = h.outside }
+  keeps_if pinned first s (Jump t) h = record { facts = h.facts; outside = h.outside; others = h.others }
+  keeps_if pinned first s (Deliver line) h = record {
+    facts = delivered_facts p o line s.dom s.storage h.facts;
+    outside = h.outside;
+    others = h.others;
+  }
   keeps_if pinned first s Run h =
       let n = ran s.clock first s h in
       record {
@@ -154,6 +163,7 @@ module _ (p : Hardware) (o : Own) (kernel : IsKernel p o) where
             either_known p o (instruction p (estate p o) (layout p o) s.clock s.dom s.storage).value
             (instruction p (estate p o) (layout p o) s.clock s.dom s.storage).state n.known;
         outside = n.state.outside;
+        others = n.state.others;
       }
 
   pub step_keeps : (pinned : Bool) (end : ℕ) (first : Storage) (s : Local) → Keeps p o first s

@@ -33,8 +33,9 @@ use Rattle.mem_system.specs.Operations.{footprint, operation, plain}
 use Rattle.mem_system.specs.Worst.{worst_touch, worst_touches}
 use Rattle.mem_system.proofs.Worst.{worst-append, worst_lines}
 use Rattle.call_table.specs.Domain.{Dom}
-use Rattle.call_table.specs.Calls.{empties, work_of, call, number_made}
-use Rattle.call_table.proofs.BoundedWork.{calls_bounded, calls_permitted}
+use Rattle.call_table.specs.Calls.{empties, work_of, number_made}
+use Rattle.call_table.specs.Mail.{called}
+use Rattle.call_table.proofs.MailCalls.{allowed_work}
 use Rattle.hardware_check.specs.Hardware.{Hardware}
 use Rattle.image_check.specs.Own.{Own}
 use Rattle.image_check.specs.Pads.{again_of}
@@ -285,13 +286,14 @@ module _ (p : Hardware) (o : Own) where
     within = λ s.
         let e = estate p o in
         let l = layout p o in
-        let w = work_of (number_made e d) (call e d s.mem).notes in
-        let bounded = calls_bounded e d s.mem in
-        let permitted : IsPermitted o.calls w = λ is. listed w.op (calls_permitted e d s.mem is) in
+        let w = work_of (number_made e d) (called e d s).notes in
+        let allowed = allowed_work e d s in
+        let bounded = allowed.bounded in
+        let permitted : IsPermitted o.calls w = λ is. listed w.op (allowed.permitted is) in
         let covers = operation_covers (own_shape p o) l w bounded.call (few_written o.calls l w bounded permitted) in
         let lines = worst_lines (hierarchy p) (touches l w) in
-        let both = worst-append (hierarchy p) (operation p.costs l w) (if empties (call e d s.mem).notes then EmptyTlb ∷ [] else []) in
-        let none = emptied_costs (empties (call e d s.mem).notes) in
+        let both = worst-append (hierarchy p) (operation p.costs l w) (if empties (called e d s).notes then EmptyTlb ∷ [] else []) in
+        let none = emptied_costs (empties (called e d s).notes) in
         omega (arith, covers, lines, both, none);
   }
 

@@ -127,7 +127,7 @@ switch_ways i h k w ways =
     let out = outgoing i.all.schedule k in
     let d = (entry_of_slot i.all.schedule k).domain in
     let touches = worst_law (hierarchy p) false (all_touches i out d) (caches_of h w) ways in
-    subst (HasWays (hierarchy p)) (sym (caches-with h w _ _))
+    subst (HasWays (hierarchy p)) (sym (caches-with h _ _ _))
     (subst (λ (r : Touched). HasWays (hierarchy p) r.caches) (sym (switch_is i out d (caches_of h w))) touches.ways)
 
 pub used_in_bound : (i : Image) (r : Separated i) (h k : ℕ) (w : World) → InTime i h k w
@@ -157,7 +157,7 @@ unfolding switch_on guarded
 switch_on_start i r h k w padded time =
     let used = used_in_pad i r h k w padded time in
     let pad = pad_law i.all.schedule k in
-    clock-with h w _ _ ∙ omega (arith, used, pad)
+    clock-with h _ _ _ ∙ omega (arith, used, pad)
 
 -- ---- what entries' switches take
 

@@ -15,11 +15,12 @@ loop-clock-preserved c =
       soon = λ h. next.ensures.soon;
       still = λ h. absurd (omega (arith, h, inv.still h, c.loop-clock-test.true));
       stands =
-          stands_on c.args.d here.memory next.new.memory (system here.core here.l2) (system next.new.core next.new.l2) here.domains
-          next.new.domains
+          stands_on c.args.d here.memory next.new.memory here.mail next.new.mail
+          (system here.core here.l2) (system next.new.core next.new.l2) here.domains next.new.domains
           here.clock next.result c.args.end next.ensures.becomes inv.stands;
       so_far =
-          along_more c.args.d c.args.end c.args.memory.now here.memory next.new.memory (system c.args.core.now c.args.l2.now)
+          along_more c.args.d c.args.end c.args.memory.now here.memory next.new.memory
+          c.args.mail.now here.mail next.new.mail (system c.args.core.now c.args.l2.now)
           (system here.core here.l2) (system next.new.core next.new.l2)
           c.args.domains.now here.domains next.new.domains c.args.now here.clock next.result
           c.loop-clock-test.true inv.so_far next.ensures.becomes;
@@ -44,7 +45,8 @@ returns c =
     let here = c.loop-clock in
     record {
       becomes =
-          along_over c.args.d c.args.end c.args.memory.now here.memory (system c.args.core.now c.args.l2.now) (system here.core here.l2)
+          along_over c.args.d c.args.end c.args.memory.now here.memory c.args.mail.now here.mail
+          (system c.args.core.now c.args.l2.now) (system here.core here.l2)
           c.args.domains.now here.domains
           c.args.now here.clock here.invariant.so_far c.loop-clock-test.false;
       few = here.invariant.few;

@@ -12,8 +12,8 @@ invariant-loop-clock l = record {
   over : l.now ≤ l.clock;
   soon : l.now < l.end → l.clock < l.end + most_event;
   still : l.end ≤ l.now → l.clock ≡ l.now;
-  stands : Stands l.d l.memory (system l.core l.l2) l.domains l.clock;
-  so_far : OpensAlong l.d l.end l.fn.memory (system l.fn.core l.fn.l2) l.fn.domains l.now l.memory
+  stands : Stands l.d l.memory l.mail (system l.core l.l2) l.domains l.clock;
+  so_far : OpensAlong l.d l.end l.fn.memory l.fn.mail (system l.fn.core l.fn.l2) l.fn.domains l.now l.memory l.mail
       (system l.core l.l2) l.domains
       l.clock;
 }

@@ -90,7 +90,8 @@ returns-in-Some-clause-becomes c off i w is =
     (due_line comes.domain.interrupts c.args.now due.line comes.due) in
     let runs : x.status ≡ Running = ap (λ (z : Domain). z.status)
     (get_or_default domains c.args.d _ _ c.requires.domain) ∙ c.in-Running.is in
-    due_stands off i c.args.d w c.args.memory.now (system c.args.core.now c.args.l2.now) domains c.args.now is c.args.end x y
+    due_stands off i c.args.d w c.args.memory.now c.args.mail.now (system c.args.core.now c.args.l2.now)
+    domains c.args.now is c.args.end x y
     c.deliver-work.new.domain (owned due)
     _ (system c.charge.new.core c.charge.new.l2) c.charge.result (c.args.now + c.from.result) got runs of_owner first
     (c.deliver-work.ensures.delivers due.line line) c.deliver-work.ensures.keeps c.deliver-work.ensures.work
@@ -128,8 +129,8 @@ step-requires-clause-runs c =
       setting = setting_by (guards_of s.off s.image) s.image c.args.d;
       state = part_of 0 c.args.d s.world;
       stands_in =
-          in_slot s.off s.image c.args.d s.world c.args.memory.now (system c.args.core.now c.args.l2.now) domains c.args.now
-          s.stands _ got;
+          in_slot s.off s.image c.args.d s.world c.args.memory.now c.args.mail.now
+          (system c.args.core.now c.args.l2.now) domains c.args.now s.stands _ got;
     }
 
 pub step-requires-clause-few : goal.step-requires-clause-few
@@ -162,11 +163,13 @@ returns-clause-becomes c off i w is =
           ∙ not_running _ b.in_default.not-Running in
           absurd (false≢true (sym still ∙ runs))
     ] in
-    own_stands off i c.args.d w c.args.memory.now (system c.args.core.now c.args.l2.now) domains c.args.now is c.args.end x
+    own_stands off i c.args.d w c.args.memory.now c.args.mail.now (system c.args.core.now c.args.l2.now)
+    domains c.args.now is c.args.end x
     c.step.new.domain
-    c.step.new.memory (system c.step.new.core c.step.new.l2) c.step.result got none
+    c.step.new.memory c.step.new.mail (system c.step.new.core c.step.new.l2) c.step.result got none
     (c.step.ensures.becomes (setting_by (guards_of off i) i c.args.d) (part_of 0 c.args.d w)
-    (in_slot off i c.args.d w c.args.memory.now (system c.args.core.now c.args.l2.now) domains c.args.now is x got))
+    (in_slot off i c.args.d w c.args.memory.now c.args.mail.now (system c.args.core.now c.args.l2.now)
+    domains c.args.now is x got))
 
 pub charge-requires-clause-work : goal.charge-requires-clause-work
 charge-requires-clause-work c = c.deliver-work.ensures.is_work

@@ -20,6 +20,7 @@ returns-in-Err-clause-leaves g c w s r readings replies k h q =
     let stands = g.P.Policy.stands_for in
     let old = c.args.domain.now in
     let memory = c.args.memory.now in
+    let mail = c.args.mail.now in
     let p : Point = record {
       setting = w;
       clock = c.args.now;
@@ -29,10 +30,11 @@ returns-in-Err-clause-leaves g c w s r readings replies k h q =
       reached = r;
     } in
     let first : Side _ =
-    record { domain = old; memory = memory; system = (system c.args.core.now c.args.l2.now); spent = c.args.spent.now } in
+    record { domain = old; memory = memory; mail = mail; system = (system c.args.core.now c.args.l2.now); spent = c.args.spent.now } in
     let last : Side _ = record {
       domain = c.stop.new.domain;
       memory = memory;
+      mail = mail;
       system = (system c.translate.new.core c.translate.new.l2);
       spent = c.translate.new.spent;
     } in
@@ -41,7 +43,7 @@ returns-in-Err-clause-leaves g c w s r readings replies k h q =
     left_whole rule stands p first k top last c.stop.ensures.keeps refl
     (instruction w.machine (estate w.machine w.own) w.clone p.clock p.dom)
     (instruction_missed p last.domain (is_root rule stands p first k top)
-    (KeptParts rule stands p old.caps last) c.in-Err.trap missed (c.stop.ensures.becomes readings replies h q))
+    (KeptParts rule stands p old.caps last) mail c.in-Err.trap k.boxes missed (c.stop.ensures.becomes readings replies h q))
 
 pub returns-in_default-clause-leaves : goal.returns-in_default-clause-leaves
 returns-in_default-clause-leaves g c w s r readings replies k h q =
@@ -49,6 +51,7 @@ returns-in_default-clause-leaves g c w s r readings replies k h q =
     let stands = g.P.Policy.stands_for in
     let old = c.args.domain.now in
     let memory = c.args.memory.now in
+    let mail = c.args.mail.now in
     let p : Point = record {
       setting = w;
       clock = c.args.now;
@@ -58,11 +61,12 @@ returns-in_default-clause-leaves g c w s r readings replies k h q =
       reached = r;
     } in
     let first : Side _ =
-    record { domain = old; memory = memory; system = (system c.args.core.now c.args.l2.now); spent = c.args.spent.now } in
+    record { domain = old; memory = memory; mail = mail; system = (system c.args.core.now c.args.l2.now); spent = c.args.spent.now } in
     let top = c.root-root.ensures.value in
     let f : Fetched _ = record {
       caps = old.caps;
       memory = memory;
+      mail = mail;
       before = (system c.translate.new.core c.translate.new.l2);
       later = (system c.fetch.new.self c.fetch.new.l2);
       at = c.in-Ok.at;
@@ -74,6 +78,7 @@ returns-in_default-clause-leaves g c w s r readings replies k h q =
     } in
     let is : IsFetched rule stands p f = record {
       page = c.in-Ok.ensures.finds w old.caps p.dom s r (kept_in rule stands p first k top);
+      boxes = k.boxes;
       placed_at = c.in-Ok.ensures.place;
       line = c.line_of-line.ensures.line;
       makes = c.fetch.ensures.makes;
@@ -87,6 +92,7 @@ returns-in_default-clause-leaves g c w s r readings replies k h q =
     let last : Side _ = record {
       domain = c.stop-in_default.new.domain;
       memory = memory;
+      mail = mail;
       system = f.later;
       spent = f.spent + f.cycles;
     } in
@@ -102,6 +108,7 @@ returns-in-Ecall-clause-leaves g c w s r readings replies k h q =
     let stands = g.P.Policy.stands_for in
     let old = c.args.domain.now in
     let memory = c.args.memory.now in
+    let mail = c.args.mail.now in
     let p : Point = record {
       setting = w;
       clock = c.args.now;
@@ -111,11 +118,12 @@ returns-in-Ecall-clause-leaves g c w s r readings replies k h q =
       reached = r;
     } in
     let first : Side _ =
-    record { domain = old; memory = memory; system = (system c.args.core.now c.args.l2.now); spent = c.args.spent.now } in
+    record { domain = old; memory = memory; mail = mail; system = (system c.args.core.now c.args.l2.now); spent = c.args.spent.now } in
     let top = c.root-root.ensures.value in
     let f : Fetched _ = record {
       caps = old.caps;
       memory = memory;
+      mail = mail;
       before = (system c.translate.new.core c.translate.new.l2);
       later = (system c.fetch.new.self c.fetch.new.l2);
       at = c.in-Ok.at;
@@ -127,6 +135,7 @@ returns-in-Ecall-clause-leaves g c w s r readings replies k h q =
     } in
     let is : IsFetched rule stands p f = record {
       page = c.in-Ok.ensures.finds w old.caps p.dom s r (kept_in rule stands p first k top);
+      boxes = k.boxes;
       placed_at = c.in-Ok.ensures.place;
       line = c.line_of-line.ensures.line;
       makes = c.fetch.ensures.makes;
@@ -138,10 +147,10 @@ returns-in-Ecall-clause-leaves g c w s r readings replies k h q =
           (c.read_word-word.ensures.holds m b);
     } in
     let called : Side _ =
-    record { domain = old; memory = memory; system = f.later; spent = f.spent + f.cycles } in
+    record { domain = old; memory = memory; mail = mail; system = f.later; spent = f.spent + f.cycles } in
     let whole = kept_whole rule stands p first k top called (keeps_itself old) refl in
     instruction_called p c.call.new.domain (is_root rule stands p first k top) rule stands f is
-    (KeptOf rule stands w c.call.new.domain c.call.new.memory (system c.call.new.core c.call.new.l2) c.call.result)
+    (KeptOf rule stands w c.call.new.domain c.call.new.memory c.call.new.mail (system c.call.new.core c.call.new.l2) c.call.result)
     (sym c.in-Some.ensures.value ∙ ap (λ x. Some x) c.in-Ecall.is)
     (λ u z n. c.call.ensures.leaves w u z readings replies (whole u z n) h q)
 
@@ -151,6 +160,7 @@ returns-in-Multiply-clause-leaves g c w s r readings replies k h q =
     let stands = g.P.Policy.stands_for in
     let old = c.args.domain.now in
     let memory = c.args.memory.now in
+    let mail = c.args.mail.now in
     let p : Point = record {
       setting = w;
       clock = c.args.now;
@@ -160,11 +170,12 @@ returns-in-Multiply-clause-leaves g c w s r readings replies k h q =
       reached = r;
     } in
     let first : Side _ =
-    record { domain = old; memory = memory; system = (system c.args.core.now c.args.l2.now); spent = c.args.spent.now } in
+    record { domain = old; memory = memory; mail = mail; system = (system c.args.core.now c.args.l2.now); spent = c.args.spent.now } in
     let top = c.root-root.ensures.value in
     let f : Fetched _ = record {
       caps = old.caps;
       memory = memory;
+      mail = mail;
       before = (system c.translate.new.core c.translate.new.l2);
       later = (system c.fetch.new.self c.fetch.new.l2);
       at = c.in-Ok.at;
@@ -176,6 +187,7 @@ returns-in-Multiply-clause-leaves g c w s r readings replies k h q =
     } in
     let is : IsFetched rule stands p f = record {
       page = c.in-Ok.ensures.finds w old.caps p.dom s r (kept_in rule stands p first k top);
+      boxes = k.boxes;
       placed_at = c.in-Ok.ensures.place;
       line = c.line_of-line.ensures.line;
       makes = c.fetch.ensures.makes;
@@ -189,6 +201,7 @@ returns-in-Multiply-clause-leaves g c w s r readings replies k h q =
     let last : Side _ = record {
       domain = c.multiply.new.domain;
       memory = memory;
+      mail = mail;
       system = f.later;
       spent = c.multiply.result;
     } in
@@ -197,7 +210,7 @@ returns-in-Multiply-clause-leaves g c w s r readings replies k h q =
     (instruction_timed p last.domain (is_root rule stands p first k top) rule stands f is _
     (KeptParts rule stands p old.caps last) (sym c.in-Some.ensures.value ∙ ap (λ x. Some x) c.in-Multiply.is)
     (λ e. cc)
-    (λ u z n. c.multiply.ensures.leaves w c.fetch.new.l2 memory p.root p.clock u z readings replies n h q))
+    (λ u z n. c.multiply.ensures.leaves w c.fetch.new.l2 memory p.root p.clock u z readings replies n.kept h q))
 
 pub returns-in-Divide-clause-leaves : goal.returns-in-Divide-clause-leaves
 returns-in-Divide-clause-leaves g c w s r readings replies k h q =
@@ -205,6 +218,7 @@ returns-in-Divide-clause-leaves g c w s r readings replies k h q =
     let stands = g.P.Policy.stands_for in
     let old = c.args.domain.now in
     let memory = c.args.memory.now in
+    let mail = c.args.mail.now in
     let p : Point = record {
       setting = w;
       clock = c.args.now;
@@ -214,11 +228,12 @@ returns-in-Divide-clause-leaves g c w s r readings replies k h q =
       reached = r;
     } in
     let first : Side _ =
-    record { domain = old; memory = memory; system = (system c.args.core.now c.args.l2.now); spent = c.args.spent.now } in
+    record { domain = old; memory = memory; mail = mail; system = (system c.args.core.now c.args.l2.now); spent = c.args.spent.now } in
     let top = c.root-root.ensures.value in
     let f : Fetched _ = record {
       caps = old.caps;
       memory = memory;
+      mail = mail;
       before = (system c.translate.new.core c.translate.new.l2);
       later = (system c.fetch.new.self c.fetch.new.l2);
       at = c.in-Ok.at;
@@ -230,6 +245,7 @@ returns-in-Divide-clause-leaves g c w s r readings replies k h q =
     } in
     let is : IsFetched rule stands p f = record {
       page = c.in-Ok.ensures.finds w old.caps p.dom s r (kept_in rule stands p first k top);
+      boxes = k.boxes;
       placed_at = c.in-Ok.ensures.place;
       line = c.line_of-line.ensures.line;
       makes = c.fetch.ensures.makes;
@@ -243,6 +259,7 @@ returns-in-Divide-clause-leaves g c w s r readings replies k h q =
     let last : Side _ = record {
       domain = c.divide.new.domain;
       memory = memory;
+      mail = mail;
       system = f.later;
       spent = c.divide.result;
     } in
@@ -251,7 +268,7 @@ returns-in-Divide-clause-leaves g c w s r readings replies k h q =
     (instruction_timed p last.domain (is_root rule stands p first k top) rule stands f is _
     (KeptParts rule stands p old.caps last) (sym c.in-Some.ensures.value ∙ ap (λ x. Some x) c.in-Divide.is)
     (λ e. cc)
-    (λ u z n. c.divide.ensures.leaves w c.fetch.new.l2 memory p.root p.clock u z readings replies n h q))
+    (λ u z n. c.divide.ensures.leaves w c.fetch.new.l2 memory p.root p.clock u z readings replies n.kept h q))
 
 pub returns-in_default-instr : goal.returns-in_default-instr
 returns-in_default-instr g c = record {
@@ -260,6 +277,7 @@ returns-in_default-instr g c = record {
       let stands = g.P.Policy.stands_for in
       let old = c.args.domain.now in
       let memory = c.args.memory.now in
+      let mail = c.args.mail.now in
       let p : Point = record {
         setting = w;
         clock = c.args.now;
@@ -269,11 +287,12 @@ returns-in_default-instr g c = record {
         reached = r;
       } in
       let first : Side _ =
-      record { domain = old; memory = memory; system = (system c.args.core.now c.args.l2.now); spent = c.args.spent.now } in
+      record { domain = old; memory = memory; mail = mail; system = (system c.args.core.now c.args.l2.now); spent = c.args.spent.now } in
       let top = c.root-root.ensures.value in
       let f : Fetched _ = record {
         caps = old.caps;
         memory = memory;
+        mail = mail;
         before = (system c.translate.new.core c.translate.new.l2);
         later = (system c.fetch.new.self c.fetch.new.l2);
         at = c.in-Ok.at;
@@ -285,6 +304,7 @@ returns-in_default-instr g c = record {
       } in
       let is : IsFetched rule stands p f = record {
         page = c.in-Ok.ensures.finds w old.caps p.dom s r (kept_in rule stands p first k top);
+        boxes = k.boxes;
         placed_at = c.in-Ok.ensures.place;
         line = c.line_of-line.ensures.line;
         makes = c.fetch.ensures.makes;
@@ -298,6 +318,7 @@ returns-in_default-instr g c = record {
       let last : Side _ = record {
         domain = c.execute.new.domain;
         memory = c.execute.new.memory;
+        mail = mail;
         system = (system c.execute.new.core c.execute.new.l2);
         spent = c.execute.new.spent;
       } in
@@ -306,7 +327,7 @@ returns-in_default-instr g c = record {
       (instruction_executed p last.domain (is_root rule stands p first k top) rule stands f is c.in-Some.instr
       (KeptParts rule stands p old.caps last) (sym c.in-Some.ensures.value)
       c.in_default-instr.not-Ecall c.in_default-instr.not-Multiply c.in_default-instr.not-Divide
-      (λ u z n. c.execute.ensures.leaves w u z readings replies n h q));
+      (λ u z n. c.execute.ensures.leaves w u z readings replies n.kept h q));
   frames = c.execute.ensures.frames;
   grows = record {
     retired = c.execute.ensures.grows.retired;

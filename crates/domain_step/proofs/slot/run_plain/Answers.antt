@@ -20,10 +20,11 @@ loop-goes_on-init g c = record {
   more = omega arith;
   apart = omega arith;
   along = λ end.
-      subst (λ (n : ℕ). MovesAlong g.P.Policy.rule g.P.Policy.stands_for end c.args.until n c.args.memory.now c.args.domain.now
-      (system c.args.core.now c.args.l2.now) c.args.now c.args.memory.now c.args.domain.now
+      subst (λ (n : ℕ). MovesAlong g.P.Policy.rule g.P.Policy.stands_for end c.args.until n
+      c.args.memory.now c.args.mail.now c.args.domain.now
+      (system c.args.core.now c.args.l2.now) c.args.now c.args.memory.now c.args.mail.now c.args.domain.now
       (system c.args.core.now c.args.l2.now) c.args.now) (sym (none_yet c.args.domain.now true refl))
-      (along_none g.P.Policy.rule g.P.Policy.stands_for end c.args.until c.args.memory.now c.args.domain.now
+      (along_none g.P.Policy.rule g.P.Policy.stands_for end c.args.until c.args.memory.now c.args.mail.now c.args.domain.now
       (system c.args.core.now c.args.l2.now) c.args.now);
 }
 
@@ -65,13 +66,14 @@ loop-goes_on-preserved g c =
       apart = omega (arith, sum, inv.apart, ran.ensures.later);
       along = λ end.
           along_then g.P.Policy.rule g.P.Policy.stands_for end c.args.until c.args.memory.now here.memory ran.new.memory
+          c.args.mail.now here.mail ran.new.mail
           c.args.domain.now here.domain ran.new.domain (system c.args.core.now c.args.l2.now)
           (system here.core here.l2) (system ran.new.core ran.new.l2)
           c.args.now here.clock ran.result.clock c.args.until (so_many c.args.domain.now here.domain here.goes_on) 1
           (so_many c.args.domain.now ran.new.domain ran.result.goes_on) (omega arith) sum (inv.along end)
-          (along_step g.P.Policy.rule g.P.Policy.stands_for end c.args.until here.memory here.domain
+          (along_step g.P.Policy.rule g.P.Policy.stands_for end c.args.until here.memory here.mail here.domain
           (system here.core here.l2) here.clock
-          ran.new.memory ran.new.domain (system ran.new.core ran.new.l2) ran.result.clock c.if-clock-until.true
+          ran.new.memory ran.new.mail ran.new.domain (system ran.new.core ran.new.l2) ran.result.clock c.if-clock-until.true
           (ran.ensures.becomes end));
     }
 
@@ -79,14 +81,16 @@ pub returns-then-goes_on-clause-along : goal.returns-then-goes_on-clause-along
 returns-then-goes_on-clause-along g c end =
     let here = c.loop-goes_on in
     let inv = here.invariant in
-    subst (λ (n : ℕ). MovesAlong g.P.Policy.rule g.P.Policy.stands_for end c.args.until n c.args.memory.now c.args.domain.now
-    (system c.args.core.now c.args.l2.now) c.args.now here.memory here.domain (system here.core here.l2) here.clock)
+    subst (λ (n : ℕ). MovesAlong g.P.Policy.rule g.P.Policy.stands_for end c.args.until n
+    c.args.memory.now c.args.mail.now c.args.domain.now
+    (system c.args.core.now c.args.l2.now) c.args.now here.memory here.mail here.domain (system here.core here.l2) here.clock)
     (all_retired c.args.domain.now here.domain here.goes_on c.if-goes_on.true) (inv.along end)
 
 pub returns-clause-along : goal.returns-clause-along
 returns-clause-along g c end =
     let here = c.loop-goes_on in
     let inv = here.invariant in
-    subst (λ (n : ℕ). MovesAlong g.P.Policy.rule g.P.Policy.stands_for end c.args.until n c.args.memory.now c.args.domain.now
-    (system c.args.core.now c.args.l2.now) c.args.now here.memory here.domain (system here.core here.l2) here.clock)
+    subst (λ (n : ℕ). MovesAlong g.P.Policy.rule g.P.Policy.stands_for end c.args.until n
+    c.args.memory.now c.args.mail.now c.args.domain.now
+    (system c.args.core.now c.args.l2.now) c.args.now here.memory here.mail here.domain (system here.core here.l2) here.clock)
     (but_one c.args.domain.now here.domain here.goes_on c.if-goes_on.false) (inv.along end)

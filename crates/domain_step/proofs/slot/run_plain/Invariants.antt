@@ -18,11 +18,11 @@ invariant-loop-goes_on g l = record {
   hierarchy : hierarchy_of g.P.Policy.rule (system l.core l.l2)
       ≡ hierarchy_of g.P.Policy.rule (system l.fn.core l.fn.l2);
   pinned : l.core.pinned ≡ l.fn.core.pinned;
-  runs : Runs g.P.Policy.rule g.P.Policy.stands_for l.memory l.domain (system l.core l.l2) l.clock;
+  runs : Runs g.P.Policy.rule g.P.Policy.stands_for l.memory l.mail l.domain (system l.core l.l2) l.clock;
   more : l.fn.domain.retired ≤ l.domain.retired;
   apart : l.now + so_many l.fn.domain l.domain l.goes_on ≤ l.clock;
   along : (end : ℕ) → MovesAlong g.P.Policy.rule g.P.Policy.stands_for end l.until (so_many l.fn.domain l.domain l.goes_on)
-      l.fn.memory l.fn.domain (system l.fn.core l.fn.l2) l.now l.memory l.domain (system l.core l.l2) l.clock;
+      l.fn.memory l.fn.mail l.fn.domain (system l.fn.core l.fn.l2) l.now l.memory l.mail l.domain (system l.core l.l2) l.clock;
 }
 
 abbrev pub decreases-loop-goes_on : goal.decreases-loop-goes_on

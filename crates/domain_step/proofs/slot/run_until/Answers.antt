@@ -14,7 +14,7 @@ loop-clock-init g c = record {
   pinned = refl;
   runs = c.requires.runs;
   so_far =
-      along_none g.P.Policy.rule g.P.Policy.stands_for c.args.end c.args.until c.args.memory.now c.args.domain.now
+      along_none g.P.Policy.rule g.P.Policy.stands_for c.args.end c.args.until c.args.memory.now c.args.mail.now c.args.domain.now
       (system c.args.core.now c.args.l2.now) c.args.now;
   apart = omega arith;
 }
@@ -70,6 +70,7 @@ loop-clock-preserved-then-clock-plain g c =
       runs = ran.ensures.runs;
       so_far =
           along_then g.P.Policy.rule g.P.Policy.stands_for c.args.end c.args.until c.args.memory.now here.memory ran.new.memory
+          c.args.mail.now here.mail ran.new.mail
           c.args.domain.now here.domain ran.new.domain (system c.args.core.now c.args.l2.now)
           (system here.core here.l2) (system ran.new.core ran.new.l2)
           c.args.now here.clock ran.result.clock c.plain_until-plain.result here.events ran.result.events
@@ -92,12 +93,13 @@ loop-clock-preserved g c =
       runs = next.ensures.runs;
       so_far =
           along_then g.P.Policy.rule g.P.Policy.stands_for c.args.end c.args.until c.args.memory.now here.memory here.memory
+          c.args.mail.now here.mail here.mail
           c.args.domain.now here.domain next.new.domain (system c.args.core.now c.args.l2.now)
           (system here.core here.l2) (system next.new.core next.new.l2)
           c.args.now here.clock next.result c.args.until here.events 1 (here.events + 1) (omega arith) refl inv.so_far
-          (along_step g.P.Policy.rule g.P.Policy.stands_for c.args.end c.args.until here.memory here.domain
+          (along_step g.P.Policy.rule g.P.Policy.stands_for c.args.end c.args.until here.memory here.mail here.domain
           (system here.core here.l2) here.clock
-          here.memory next.new.domain (system next.new.core next.new.l2) next.result c.loop-clock-test.true next.ensures.becomes);
+          here.memory here.mail next.new.domain (system next.new.core next.new.l2) next.result c.loop-clock-test.true next.ensures.becomes);
       apart = omega (arith, inv.apart, next.ensures.later);
     }
 
@@ -114,13 +116,13 @@ returns g c =
     record {
       along = inv.so_far;
       once =
-          along_once g.P.Policy.rule g.P.Policy.stands_for c.args.end c.args.until c.args.memory.now c.args.domain.now
+          along_once g.P.Policy.rule g.P.Policy.stands_for c.args.end c.args.until c.args.memory.now c.args.mail.now c.args.domain.now
           (system c.args.core.now c.args.l2.now) c.args.now base trap
-          here.memory here.domain (system here.core here.l2) here.clock here.events inv.so_far over c.requires.within;
+          here.memory here.mail here.domain (system here.core here.l2) here.clock here.events inv.so_far over c.requires.within;
       whole =
-          along_whole g.P.Policy.rule g.P.Policy.stands_for c.args.end c.args.until c.args.memory.now c.args.domain.now
+          along_whole g.P.Policy.rule g.P.Policy.stands_for c.args.end c.args.until c.args.memory.now c.args.mail.now c.args.domain.now
           (system c.args.core.now c.args.l2.now) c.args.now base trap
-          here.memory here.domain (system here.core here.l2) here.clock here.events inv.so_far over;
+          here.memory here.mail here.domain (system here.core here.l2) here.clock here.events inv.so_far over;
       frames = inv.frames;
       hierarchy = inv.hierarchy;
       pinned = inv.pinned;

@@ -14,9 +14,9 @@ invariant-loop-clock g l = record {
   hierarchy : hierarchy_of g.P.Policy.rule (system l.core l.l2)
       ≡ hierarchy_of g.P.Policy.rule (system l.fn.core l.fn.l2);
   pinned : l.core.pinned ≡ l.fn.core.pinned;
-  runs : Runs g.P.Policy.rule g.P.Policy.stands_for l.memory l.domain (system l.core l.l2) l.clock;
-  so_far : MovesAlong g.P.Policy.rule g.P.Policy.stands_for l.end l.until l.events l.fn.memory l.fn.domain
-      (system l.fn.core l.fn.l2) l.now l.memory l.domain (system l.core l.l2) l.clock;
+  runs : Runs g.P.Policy.rule g.P.Policy.stands_for l.memory l.mail l.domain (system l.core l.l2) l.clock;
+  so_far : MovesAlong g.P.Policy.rule g.P.Policy.stands_for l.end l.until l.events l.fn.memory l.fn.mail l.fn.domain
+      (system l.fn.core l.fn.l2) l.now l.memory l.mail l.domain (system l.core l.l2) l.clock;
   apart : l.now + l.events ≤ l.clock;
 }
 

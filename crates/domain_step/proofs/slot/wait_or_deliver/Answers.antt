@@ -15,7 +15,7 @@ use Rattle.domain_step.proofs.slot.wait_or_deliver.Goals as goal
 pub returns-in_default : goal.returns-in_default
 returns-in_default g c =
     let still =
-    moves_still g.P.Policy.rule g.P.Policy.stands_for c.args.end c.args.memory.now c.args.domain.now
+    moves_still g.P.Policy.rule g.P.Policy.stands_for c.args.end c.args.memory.now c.args.mail.now c.args.domain.now
     (system c.args.core.now c.args.l2.now) c.args.now
     (not_running c.args.domain.now.status c.in_default.not-Running) in
     record {
@@ -23,7 +23,7 @@ returns-in_default g c =
       hierarchy = refl;
       pinned = refl;
       runs =
-          runs_on g.P.Policy.rule g.P.Policy.stands_for c.args.end c.args.memory.now c.args.memory.now
+          runs_on g.P.Policy.rule g.P.Policy.stands_for c.args.end c.args.memory.now c.args.memory.now c.args.mail.now c.args.mail.now
           c.args.domain.now c.args.domain.now (system c.args.core.now c.args.l2.now)
           (system c.args.core.now c.args.l2.now)
           (λ w. step w c.args.end) c.args.now c.args.end still c.requires.runs;
@@ -50,7 +50,7 @@ returns-then-next-now-clause-becomes g c =
     let until : c.idle_until-next.result ≡ idle_until c.args.end (next_cycle old.interrupts) =
     c.idle_until-next.ensures.value ∙ ap (idle_until c.args.end) c.next_moment.ensures.next in
     let comes = due_by old.interrupts c.args.now c.args.end c.requires.before (omega (arith, until, c.if-next-now.true)) in
-    moves_due g.P.Policy.rule g.P.Policy.stands_for c.args.end c.args.memory.now old new
+    moves_due g.P.Policy.rule g.P.Policy.stands_for c.args.end c.args.memory.now c.args.mail.now old new
     (system c.args.core.now c.args.l2.now) (system c.deliver_due.new.core c.deliver_due.new.l2)
     c.args.now (c.args.now + c.from.result) c.deliver_due.result comes.0 (plain delivery_op) c.in-Running.is comes.1
     (c.deliver_due.ensures.delivers comes.0 (due_line old.interrupts c.args.now comes.0 comes.1))
@@ -60,7 +60,7 @@ returns-then-next-now-clause-becomes g c =
 
 pub returns-then-next-now-clause-runs : goal.returns-then-next-now-clause-runs
 returns-then-next-now-clause-runs g c =
-    runs_on g.P.Policy.rule g.P.Policy.stands_for c.args.end c.args.memory.now c.args.memory.now
+    runs_on g.P.Policy.rule g.P.Policy.stands_for c.args.end c.args.memory.now c.args.memory.now c.args.mail.now c.args.mail.now
     c.args.domain.now c.deliver_due.new.domain (system c.args.core.now c.args.l2.now)
     (system c.deliver_due.new.core c.deliver_due.new.l2)
     (λ w. step w c.args.end) c.args.now _ (returns-then-next-now-clause-becomes g c) c.requires.runs
@@ -76,13 +76,13 @@ returns-clause-becomes g c =
     none_before d.interrupts c.args.now c.args.end (omega (arith, until, c.if-next-now.false)) in
     let idle : is_ready d.threads.active.state ≡ false =
     not_ready d c.args.now c.args.end c.requires.before c.in-Running.is none c.requires.other in
-    moves_idle g.P.Policy.rule g.P.Policy.stands_for c.args.end c.args.memory.now d
+    moves_idle g.P.Policy.rule g.P.Policy.stands_for c.args.end c.args.memory.now c.args.mail.now d
     (system c.args.core.now c.args.l2.now) c.args.now c.idle_until-next.result c.in-Running.is none idle
     until
 
 pub returns-clause-runs : goal.returns-clause-runs
 returns-clause-runs g c =
-    runs_on g.P.Policy.rule g.P.Policy.stands_for c.args.end c.args.memory.now c.args.memory.now
+    runs_on g.P.Policy.rule g.P.Policy.stands_for c.args.end c.args.memory.now c.args.memory.now c.args.mail.now c.args.mail.now
     c.args.domain.now c.args.domain.now (system c.args.core.now c.args.l2.now)
     (system c.args.core.now c.args.l2.now)
     (λ w. step w c.args.end) c.args.now _ (returns-clause-becomes g c) c.requires.runs

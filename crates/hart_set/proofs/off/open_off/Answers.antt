@@ -1,6 +1,5 @@
-use Rattle.std.proofs.Common.{◌≡◌, ◌≢◌, List, Some, length, rules, arith}
+use Rattle.std.proofs.Common.{◌≡◌, ◌≢◌, List, Some, length, rules}
 use Rattle.std.specs.Prelude.{slice_get}
-use Rattle.std.proofs.lemmas.Result.{IfOk-from_err}
 use Rattle.guards.specs.declared.Guard.TheVariants as guard
 use Rattle.kernel_call.specs.declared.domain.Domain.{Domain}
 use Rattle.image_check.specs.Image.{image_from}

@@ -43,6 +43,7 @@ pub loop-number-preserved : goal.loop-number-preserved
 loop-number-preserved c =
     let ds = c.args.domains.now in
     let k = c.loop-number.number in
+    let mail = c.args.mail in
     let d = c.index-domains-number.result in
     let rest = drop (k + 1) ds in
     let left : drop k ds ≡ d ∷ drop (k + 1) ds =
@@ -50,11 +51,11 @@ loop-number-preserved c =
     ∙ ap (λ (x : RawDomain). x ∷ drop (k + 1) ds) (sym c.index-domains-number.is) in
     let parts = subst (λ (os : List RawDomain). ArePartsOf c.loop-number.parts (map domain_model os)) left c.loop-number.invariant.1 in (
       made_more own_model c.loop-number.owns.items c.push.new.self.items c.in_ok-own_from.field-0
-          (owns_from k (map domain_model (drop k ds))) (owns_from (k + 1) (map domain_model rest))
-          (owns_from 0 (map domain_model ds)) (own_from k (domain_model d))
-          (ap (λ (os : List RawDomain). owns_from k (map domain_model os)) left) c.loop-number.invariant.0
+          (owns_from k mail (map domain_model (drop k ds))) (owns_from (k + 1) mail (map domain_model rest))
+          (owns_from 0 mail (map domain_model ds)) (own_from k mail (domain_model d))
+          (ap (λ (os : List RawDomain). owns_from k mail (map domain_model os)) left) c.loop-number.invariant.0
           c.in_ok-push.ensures.items
-          (c.in_ok-own_from.ensures.value ∙ ap (λ (n : ℕ). own_from n (domain_model d)) c.new.ensures.value),
+          (c.in_ok-own_from.ensures.value ∙ ap (λ (n : ℕ). own_from n mail (domain_model d)) c.new.ensures.value),
       are_left c.loop-number.parts c.take_first.new.self c.take_first.result (domain_model d)
           (map domain_model rest) parts c.take_first.ensures.taken,
     )
@@ -67,13 +68,13 @@ returns c =
     record {
       value =
           sym (append-nil made)
-          ∙ ap (λ (os : List RawDomain). made ++ owns_from c.loop-number.number (map domain_model os)) (sym none)
+          ∙ ap (λ (os : List RawDomain). made ++ owns_from c.loop-number.number c.args.mail (map domain_model os)) (sym none)
           ∙ c.loop-number.invariant.0;
     }
 
 pub loop-number-init : goal.loop-number-init
 loop-number-init c =
-    let all = owns_from 0 (map domain_model c.args.domains.now) in
+    let all = owns_from 0 c.args.mail (map domain_model c.args.domains.now) in
     (ap (λ (owns : List Own). map own_model owns ++ all) c.new-owns.ensures.items, c.requires.parts)
 
 pub bounds-domains-number : goal.bounds-domains-number

@@ -7,6 +7,6 @@ use Rattle.image_check.proofs.own.owns_in.Given as goal
 
 abbrev pub invariant-loop-number : goal.invariant-loop-number
 invariant-loop-number l =
-    (map own_model l.owns.items ++ owns_from l.number (map domain_model (drop l.number l.domains))
-    ≡ owns_from 0 (map domain_model l.domains))
+    (map own_model l.owns.items ++ owns_from l.number l.mail (map domain_model (drop l.number l.domains))
+    ≡ owns_from 0 l.mail (map domain_model l.domains))
     × ArePartsOf l.parts (map domain_model (drop l.number l.domains))

@@ -34,7 +34,7 @@ four_steps-costs-requires-clause-runs c =
     let caches = rw c.in-Some-2.is at made.cold in
     let leaves = rw c.in-Some-2.is at made.kept in
     opened_runs i r c.load_pages.new.memory x (c.in_ok-domains.ensures.opened.each 0 x got) frames
-    c.load_pages.ensures.holds (λ _. lru_rule) (λ _ ways state list. Packs ways state list)
+    c.load_pages.ensures.holds (λ _. lru_rule) (λ _ ways state list. Packs ways state list) c.in_ok-mail.mail
     (system c.in-Some-2.core c.in-Some-2.l2) (ap hierarchy (sym hardware) ∙ levels) pinned
     (subst (λ (h : Hardware). SystemStands (λ _ ways state list. Packs ways state list)
     (system c.in-Some-2.core c.in-Some-2.l2) (cold (hierarchy h))) hardware caches) leaves

@@ -1,3 +1,4 @@
+use Rattle.world_view.specs.Laws.{comes_to}
 use Rattle.std.proofs.Common.{sym, subst}
 use Rattle.image_check.specs.Image.{own_of}
 use Rattle.world_view.specs.Machine.{World, part_of, alone_enter, alone_out}
@@ -27,7 +28,7 @@ pub returns-clause-into : goal.returns-clause-into
 returns-clause-into c i h order r below is d a id outside out e near =
     let s = harts i order in
     subst (λ (w : World). Within i.all.hardware (own_of i d) (part_of h d w)
-    (alone_enter (public_on i.all h) (own_of i d) (slots_of h s) a)) (sym (next_out i h s outside))
+    (alone_enter (public_on i.all h) (own_of i d) (slots_of h s) (comes_to i h d s) a)) (sym (next_out i h s outside))
     (switch_in (image_on i h) (separated_on i r h is) h (slots_of h s) d id s.world a
     (time i r h is s (running i r order below) outside) out e near)
 
@@ -35,7 +36,7 @@ pub returns-clause-both : goal.returns-clause-both
 returns-clause-both c i h order r below is d a id outside out e near =
     let s = harts i order in
     subst (λ (w : World). Within i.all.hardware (own_of i d) (part_of h d w)
-    (alone_enter (public_on i.all h) (own_of i d) (slots_of h s) (alone_out i.all.hardware (own_of i d) a)))
+    (alone_enter (public_on i.all h) (own_of i d) (slots_of h s) (comes_to i h d s) (alone_out i.all.hardware (own_of i d) a)))
     (sym (next_out i h s outside))
     (switch_both (image_on i h) (separated_on i r h is) h (slots_of h s) d id s.world a
     (time i r h is s (running i r order below) outside) out e near)

@@ -1,4 +1,5 @@
 use Rattle.std.proofs.Common.{◌∙◌, ap, subst, arith}
+use Rattle.mail_slots.specs.Boxes.{opening}
 use Rattle.tp_base.specs.Table.{empty}
 use Rattle.phys_mem.specs.Contents.{Contents}
 use Rattle.repl_policy.specs.Members.{any_stands_for}
@@ -35,13 +36,14 @@ load_domain-requires-clause-has_pool c =
     (runs_of (public_model c.args.public.now) (own_model c.args.own.now) c.args.d c.requires.image).pool
 
 stood : (c : goal.In_ok-core) → Stand (public_model c.args.public.now).hardware (own_model c.args.own.now)
-    (kept c.load_domain.new.memory (system c.in_ok-core.core c.in_ok-core.l2) c.in_ok-domain.domain 0)
+    (kept c.load_domain.new.memory c.in_ok-mail.mail (system c.in_ok-core.core c.in_ok-core.l2) c.in_ok-domain.domain 0)
     (alone_after (public_model c.args.public.now) (own_model c.args.own.now) c.args.d 0)
 stood c =
     let levels = c.geometry_of-geometry.ensures.hierarchy in
     opened (public_for (public_model c.args.public.now) c.args.d) (own_model c.args.own.now)
     (runs_of (public_model c.args.public.now) (own_model c.args.own.now) c.args.d c.requires.image)
-    c.args.d c.load_domain.new.memory (system c.in_ok-core.core c.in_ok-core.l2) c.in_ok-domain.domain
+    c.args.d c.load_domain.new.memory c.in_ok-mail.mail (system c.in_ok-core.core c.in_ok-core.l2) c.in_ok-domain.domain
+    (c.in_ok-mail.ensures.opening ∙ ap opening c.as_slice.ensures.value)
     (c.load_domain.ensures.size ∙ c.in_ok-domain.ensures.size ∙ ap (λ (x : Contents). x.frames) c.in_ok-memory.ensures.zero)
     (c.load_domain.ensures.placed empty (c.in_ok-domain.ensures.blank c.in_ok-memory.ensures.holds))
     (c.in_ok-core.ensures.hierarchy ∙ levels) c.in_ok-core.ensures.pinned
@@ -56,13 +58,13 @@ invariant_of-result-clause-runs c = runs_of (public_model c.args.public.now) (ow
 pub invariant_of-result-clause-stands : goal.invariant_of-result-clause-stands
 invariant_of-result-clause-stands c =
     stands_of (public_model c.args.public.now).hardware (own_model c.args.own.now)
-    (kept c.load_domain.new.memory (system c.in_ok-core.core c.in_ok-core.l2) c.in_ok-domain.domain 0) _
+    (kept c.load_domain.new.memory c.in_ok-mail.mail (system c.in_ok-core.core c.in_ok-core.l2) c.in_ok-domain.domain 0) _
     (stood c)
 
 pub invariant_of-result-clause-facts : goal.invariant_of-result-clause-facts
 invariant_of-result-clause-facts c =
     ∣ facts_of (public_model c.args.public.now).hardware (own_model c.args.own.now)
-    (kept c.load_domain.new.memory (system c.in_ok-core.core c.in_ok-core.l2) c.in_ok-domain.domain 0) _
+    (kept c.load_domain.new.memory c.in_ok-mail.mail (system c.in_ok-core.core c.in_ok-core.l2) c.in_ok-domain.domain 0) _
     (stood c) ∣₁
 
 pub invariant_of-result-clause-in_bounds : goal.invariant_of-result-clause-in_bounds

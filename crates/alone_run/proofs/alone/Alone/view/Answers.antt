@@ -4,8 +4,8 @@ use Rattle.hardware_check.specs.Models.{hardware_model}
 use Rattle.image_check.specs.Public.{Public}
 use Rattle.image_check.specs.Own.{Own}
 use Rattle.image_check.specs.Models.{public_model, own_model}
-use Rattle.world_view.specs.View.{view_alone}
-use Rattle.world_view.specs.Harts.{view_alone_on}
+use Rattle.world_view.specs.View.{view_mailed, view_alone}
+use Rattle.world_view.specs.Harts.{view_mailed_on, view_alone_on}
 use Rattle.domain_view.specs.Models.{view_model}
 use Rattle.domain_open.proofs.Seen.{pool_in_memory, view_is}
 use Rattle.alone_run.specs.Runs.{public_for, alone_after}
@@ -26,7 +26,7 @@ new-requires c =
 seen : (c : goal.After-new) → view_model c.new.result
     ≡ view_alone (public_for (public_model c.args.self.now.public.now) c.args.self.now.number)
     (own_model c.args.self.now.own.now) c.args.self.now.number c.args.self.now.slots
-unfolding view_alone
+unfolding view_mailed
 seen c =
     let a = c.args.self.now in
     let s = alone_after (public_model a.public.now) (own_model a.own.now) a.number a.slots in
@@ -38,7 +38,7 @@ pub returns-clause-view : goal.returns-clause-view
 returns-clause-view c = seen c
 
 pub returns-clause-image : goal.returns-clause-image
-unfolding view_alone_on
+unfolding view_mailed_on
 returns-clause-image c = λ i public own.
     let a = c.args.self.now in
     subst₂ (λ (p : Public) (o : Own). view_model c.new.result ≡ view_alone (public_for p a.number) o a.number a.slots) public own (seen c)

@@ -52,18 +52,18 @@ index_mut-requires c =
 
 -- ---- what it is called with
 
-call : (c : goal.After-index_mut)
+call : (c : goal.After-run_until-arg-4-1)
     → Called (image_from c.self.inside.image.now) c.self.inside.state c.args.h c.index_mut-hart.result.now
 call c =
     called c.self.inside.image.now c.self.inside.state c.args.self.now c.self.view_is c.args.h c.requires.hart c.self.invariant
     c.index_mut-hart.result.now c.index_mut-hart.ensures.value
 
-inside : (c : goal.After-index_mut) → c.index_mut-hart.result.now.slot ≡ Some c.args.slot
+inside : (c : goal.After-run_until-arg-4-1) → c.index_mut-hart.result.now.slot ≡ Some c.args.slot
 inside c =
     at_hart c.self.inside.image.now c.self.inside.state c.args.self.now c.self.view_is c.args.h c.index_mut-hart.result.now
     (λ x. x.slot ≡ Some c.args.slot) (call c).got c.requires.inside
 
-got : (c : goal.After-index_mut)
+got : (c : goal.After-run_until-arg-4-1)
     → slice_get c.self.inside.state.domains.items c.args.slot.domain ≡ Some c.index_mut.result.now
 got c =
     slot_read (image_from c.self.inside.image.now) c.self.inside.state c.args.h c.index_mut-hart.result.now (call c) c.args.slot (inside c)
@@ -126,6 +126,7 @@ got_after c =
 abbrev left : (c : goal.Joined-slot-hart) → StepEnd
 left c = record {
   memory = c.run_until-ran.new.memory;
+  mail = c.run_until-ran.new.mail;
   core = c.run_until-ran.new.core;
   l2 = c.run_until-ran.new.l2;
   domain = c.run_until-ran.new.domain;
@@ -146,6 +147,7 @@ either c P so = elim c.if-slot-hart.branch [
         past = w.if-slot-hart.true;
         kept = record {
           memory = refl;
+          mail = refl;
           l2 = refl;
           core = refl;
           clock = refl;
@@ -171,6 +173,7 @@ either c P so = elim c.if-slot-hart.branch [
         soon = omega (arith, w.if-slot-hart.false);
         kept = record {
           memory = refl;
+          mail = refl;
           l2 = refl;
           core = refl;
           clock = refl;
@@ -188,12 +191,12 @@ either c P so = elim c.if-slot-hart.branch [
 -- its events are counted up to the slot's end, and come past it
 along_all : (c : goal.Joined-slot-hart) → c.args.stride ≡ stride.Slot
     → MovesAlong any_rule any_stands_for c.args.slot.end c.args.slot.end c.run_until-ran.result.events c.self.inside.state.memory
-    c.index_mut.result.now (system c.index_mut-hart.result.now.core c.self.inside.state.l2) c.index_mut-hart.result.now.clock
-    (left c).memory (left c).domain (system (left c).core (left c).l2) (left c).clock
+    c.self.inside.state.mail c.index_mut.result.now (system c.index_mut-hart.result.now.core c.self.inside.state.l2) c.index_mut-hart.result.now.clock
+    (left c).memory (left c).mail (left c).domain (system (left c).core (left c).l2) (left c).clock
 along_all c all =
     subst (λ (until : ℕ). MovesAlong any_rule any_stands_for c.args.slot.end until c.run_until-ran.result.events
-    c.self.inside.state.memory c.index_mut.result.now (system c.index_mut-hart.result.now.core c.self.inside.state.l2)
-    c.index_mut-hart.result.now.clock (left c).memory (left c).domain (system (left c).core (left c).l2) (left c).clock)
+    c.self.inside.state.memory c.self.inside.state.mail c.index_mut.result.now (system c.index_mut-hart.result.now.core c.self.inside.state.l2)
+    c.index_mut-hart.result.now.clock (left c).memory (left c).mail (left c).domain (system (left c).core (left c).l2) (left c).clock)
     (c.until-until.ensures.slot all) c.run_until-ran.ensures.along
 
 past_all : (c : goal.Joined-slot-hart) → c.args.stride ≡ stride.Slot → c.args.slot.end ≤ (left c).clock

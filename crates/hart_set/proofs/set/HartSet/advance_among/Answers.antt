@@ -1,4 +1,4 @@
-use Rattle.std.proofs.Common.{◌≡◌, ◌∙◌, ◌++◌, ℕ, ◌+◌, ◌<◌, ◌≤◌, false, List, Option, Some, None, inl, inr, length, take, drop, add-one, refl, sym, ap, subst, subst₂, rules, arith}
+use Rattle.std.proofs.Common.{◌≡◌, ℕ, ◌+◌, ◌<◌, false, List, Some, None, length, add-one, refl, sym, ap, subst, subst₂, rules, arith}
 use Rattle.std.proofs.Math.ListN.{set}
 use Rattle.std.specs.Vec.{with_item, with_items}
 use Rattle.image_record.specs.Record.{Raw}
@@ -12,7 +12,6 @@ use Rattle.domain_step.proofs.SwitchCounts.{written_back}
 use Rattle.hart_orders.specs.declared.hart.Hart.{Hart}
 use Rattle.hart_set.specs.declared.set.State.{State}
 use Rattle.hart_set.specs.Slots.{SlotEnds}
-use Rattle.hart_set.specs.Models.{image_of}
 use Rattle.hart_set.proofs.Offs.{own_moments_not}
 use Rattle.hart_set.proofs.Called.{Called, s, called, within, at_hart, to_value}
 use Rattle.hart_set.proofs.GoingOn.{domain_there, before, end_fits}
@@ -25,27 +24,27 @@ index_mut-hart-requires c =
     omega (arith, there)
 
 -- moments of all domains come
-all_of : (c : goal.After-from) → (guards_of c.self.inside.state.off (image_from c.self.inside.image.now)).irq ≡ false
+all_of : (c : goal.After-open_slot-arg-4-1) → (guards_of c.self.inside.state.off (image_from c.self.inside.image.now)).irq ≡ false
 all_of c =
     let off = subst (λ (u : Raw × State). u.1.off ≡ Some guard.Irq) (sym c.self.view_is) c.requires.moments in
     sym (own_moments_not c.self.inside.state.off (image_from c.self.inside.image.now) off)
 
-call : (c : goal.After-from)
+call : (c : goal.After-open_slot-arg-4-1)
     → Called (image_from c.self.inside.image.now) c.self.inside.state c.args.h c.index_mut-hart.result.now
 call c =
     called c.self.inside.image.now c.self.inside.state c.args.self.now c.self.view_is c.args.h c.requires.hart c.self.invariant
     c.index_mut-hart.result.now c.index_mut-hart.ensures.value
 
-first : (c : goal.After-from) → c.args.h ≡ 0
+first : (c : goal.After-open_slot-arg-4-1) → c.args.h ≡ 0
 first c = is_first (image_from c.self.inside.image.now) c.self.inside.state c.args.h c.index_mut-hart.result.now (call c) (all_of c)
 
 -- the call, of the first hart
-call_first : (c : goal.After-from)
+call_first : (c : goal.After-open_slot-arg-4-1)
     → Called (image_from c.self.inside.image.now) c.self.inside.state 0 c.index_mut-hart.result.now
 call_first c =
     subst (λ (n : ℕ). Called (image_from c.self.inside.image.now) c.self.inside.state n c.index_mut-hart.result.now) (first c) (call c)
 
-inside : (c : goal.After-from) → c.index_mut-hart.result.now.slot ≡ Some c.args.slot
+inside : (c : goal.After-open_slot-arg-4-1) → c.index_mut-hart.result.now.slot ≡ Some c.args.slot
 inside c =
     at_hart c.self.inside.image.now c.self.inside.state c.args.self.now c.self.view_is c.args.h c.index_mut-hart.result.now
     (λ x. x.slot ≡ Some c.args.slot) (call c).got c.requires.inside
@@ -70,7 +69,7 @@ open_slot-hart-requires-clause-stands c =
     let i = image_from c.self.inside.image.now in
     let t = c.self.inside.state in
     let x = c.index_mut-hart.result.now in
-    subst₂ (λ (d : ℕ) (ds : List Domain). Stands d t.memory (system x.core t.l2) ds x.clock) (sym c.from.ensures) (sym c.as_mut_slice.ensures.value)
+    subst₂ (λ (d : ℕ) (ds : List Domain). Stands d t.memory t.mail (system x.core t.l2) ds x.clock) (sym c.from.ensures) (sym c.as_mut_slice.ensures.value)
     (record {
       off = t.off;
       image = i;
@@ -132,12 +131,14 @@ after c = record {
   l2 = c.open_slot-hart.new.l2;
   harts = with_item c.self.inside.state.harts c.args.h (hart_after c);
   domains = with_items c.self.inside.state.domains c.open_slot-hart.new.domains;
+  mail = c.open_slot-hart.new.mail;
   used = c.self.inside.state.used;
 }
 
 abbrev left : (c : AtEnd) → AmongEnd
 left c = record {
   memory = c.open_slot-hart.new.memory;
+  mail = c.open_slot-hart.new.mail;
   core = c.open_slot-hart.new.core;
   l2 = c.open_slot-hart.new.l2;
   domains = c.open_slot-hart.new.domains;
@@ -152,6 +153,7 @@ kept c =
     record {
       off = refl;
       memory = refl;
+      mail = refl;
       l2 = refl;
       core = refl;
       clock = refl;
@@ -164,15 +166,15 @@ kept c =
     }
 
 becomes : (c : AtEnd) → Becomes (λ g j w. open_slot g j c.args.slot.domain c.args.slot.end w) c.args.slot.domain
-    c.self.inside.state.memory (system c.index_mut-hart.result.now.core c.self.inside.state.l2) c.self.inside.state.domains.items
-    c.index_mut-hart.result.now.clock c.open_slot-hart.new.memory (system c.open_slot-hart.new.core c.open_slot-hart.new.l2)
+    c.self.inside.state.memory c.self.inside.state.mail (system c.index_mut-hart.result.now.core c.self.inside.state.l2) c.self.inside.state.domains.items
+    c.index_mut-hart.result.now.clock c.open_slot-hart.new.memory c.open_slot-hart.new.mail (system c.open_slot-hart.new.core c.open_slot-hart.new.l2)
     c.open_slot-hart.new.domains c.open_slot-hart.result
 becomes c =
     let t = c.self.inside.state in
     let x = c.index_mut-hart.result.now in
     let z = left c in
-    subst₂ (λ (d : ℕ) (ds : List Domain). Becomes (λ g j w. open_slot g j d c.args.slot.end w) d t.memory (system x.core t.l2) ds
-    x.clock z.memory (system z.core z.l2) z.domains z.clock) c.from.ensures c.as_mut_slice.ensures.value c.open_slot-hart.ensures.becomes
+    subst₂ (λ (d : ℕ) (ds : List Domain). Becomes (λ g j w. open_slot g j d c.args.slot.end w) d t.memory t.mail (system x.core t.l2) ds
+    x.clock z.memory z.mail (system z.core z.l2) z.domains z.clock) c.from.ensures c.as_mut_slice.ensures.value c.open_slot-hart.ensures.becomes
 
 ends : (c : AtEnd) → SlotEnds (image_from c.self.inside.image.now) c.args.h c.self.inside.state (after c)
 ends c =

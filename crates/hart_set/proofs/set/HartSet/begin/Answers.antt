@@ -10,6 +10,7 @@ use Rattle.kernel_clone.specs.Models.{layout_model}
 use Rattle.sched_table.specs.Schedule.{on_hart, place_on, switch_entry, outgoing}
 use Rattle.image_check.specs.Image.{Image, image_from}
 use Rattle.world_view.specs.declared.used.Used.{Used}
+use Rattle.world_view.specs.Mail.{switched_boxes}
 use Rattle.world_view.specs.Machine.{guards_of, clone_by}
 use Rattle.world_view.specs.Relations.{IsDomain}
 use Rattle.domain_step.specs.Usage.{IsUsed, CountedUpTo}
@@ -20,18 +21,22 @@ use Rattle.hart_set.specs.declared.set.State.{State}
 use Rattle.hart_set.specs.Turns.{IsTurn}
 use Rattle.hart_set.specs.Standing.{AtHart}
 use Rattle.hart_set.specs.Slots.{NextStands, SlotEnds, SlotEndsIn}
-use Rattle.hart_set.proofs.Called.{Called, called, at_hart, value_at, state_at, of_image, to_value, domain_read, within}
-use Rattle.hart_set.proofs.Starting.{clock_early, few_slots, out_on, clone_on, counted_few, Switched, Entered, IsInside, IsPast, entered, reached_entered, through_begun, through_counted, ended_begun, set_there}
+use Rattle.hart_set.proofs.Called.{Called, called, at_hart, value_at, of_image, of_value, to_value, domain_read, within}
+use Rattle.hart_set.proofs.Starting.{few_numbers, clock_early, few_slots, out_on, clone_on, counted_few, Switched, Entered, IsInside, IsPast, entered, reached_entered, through_begun, through_counted, ended_begun, set_there}
 use Rattle.hart_set.proofs.set.HartSet.begin.Goals as goal
 
 pub next_turn-turn-requires : goal.next_turn-turn-requires
 next_turn-turn-requires c = record { hart = c.requires.hart }
 
-pub outgoing-out-requires : goal.outgoing-out-requires
-outgoing-out-requires c = record {
+pub leaving-leaving-requires : goal.leaving-leaving-requires
+leaving-leaving-requires c = record {
   hart = c.requires.hart;
   ended = λ x got. (c.next_turn-turn.ensures.turn x got).ended;
+  domain = c.next_turn-turn.ensures.ended;
 }
+
+pub clone_of-out-requires : goal.clone_of-out-requires
+clone_of-out-requires c = record { there = c.leaving-leaving.ensures.there }
 
 pub index-requires : goal.index-requires
 index-requires c =
@@ -69,15 +74,24 @@ turn c =
     (λ (i : Image) (x : Hart). IsTurn (on_hart i.all.schedule c.args.h) x.slots c.next_turn-turn.result)
     (call c).got c.next_turn-turn.ensures.turn
 
+-- who leaves
+left_by : (c : goal.After-until_off) → c.leaving-leaving.result
+    ≡ outgoing (on_hart (image_from c.self.inside.image.now).all.schedule c.args.h) c.index_mut-hart.result.now.slots
+left_by c =
+    value_at c.self.inside.image.now c.self.inside.state c.args.self.now c.self.view_is c.args.h c.index_mut-hart.result.now
+    (λ (i : Image) (x : Hart). c.leaving-leaving.result ≡ outgoing (on_hart i.all.schedule c.args.h) x.slots)
+    (call c).got c.leaving-leaving.ensures.domain
+
 leaves : (c : goal.After-until_off) → option_map layout_model (option_copied c.as_ref.result)
     ≡ clone_by (guards_of c.self.inside.state.off (image_from c.self.inside.image.now))
     (outgoing (on_hart (image_from c.self.inside.image.now).all.schedule c.args.h) c.index_mut-hart.result.now.slots)
 leaves c =
     ap (option_map layout_model) c.as_ref.ensures.value
-    ∙ state_at c.self.inside.image.now c.self.inside.state c.args.self.now c.self.view_is c.args.h c.index_mut-hart.result.now
-    (λ (i : Image) (u : State) (x : Hart). option_map layout_model c.outgoing-out.result
-    ≡ clone_by (guards_of u.off i) (outgoing (on_hart i.all.schedule c.args.h) x.slots))
-    (call c).got c.outgoing-out.ensures.clone
+    ∙ of_value c.self.inside.image.now c.self.inside.state c.args.self.now c.self.view_is
+    (λ (i : Image) (u : State). option_map layout_model c.clone_of-out.result
+    ≡ clone_by (guards_of u.off i) c.leaving-leaving.result)
+    c.clone_of-out.ensures.clone
+    ∙ ap (clone_by (guards_of c.self.inside.state.off (image_from c.self.inside.image.now))) (left_by c)
 
 named : (c : goal.After-until_off)
     → IsDomain (image_from c.self.inside.image.now) c.next_turn-turn.result.entry.domain
@@ -151,6 +165,23 @@ settled-slots-requires c =
           c.index_mut-hart.result.now c.index_mut-hart.ensures.value).got c.requires.slots;
     }
 
+-- ---- what its boxes are switched with
+
+pub switch_boxes-requires : goal.switch_boxes-requires
+switch_boxes-requires c =
+    let i = image_from c.self.inside.image.now in
+    let r = c.self.invariant.accepted in
+    record {
+      leaves =
+          few_numbers i r c.leaving-leaving.result
+          (of_image c.self.inside.image.now c.self.inside.state c.args.self.now c.self.view_is
+          (λ (j : Image). IfSome c.leaving-leaving.result (IsDomain j)) c.leaving-leaving.ensures.there);
+      enters =
+          few_numbers i r (Some c.next_turn-turn.result.entry.domain)
+          (of_image c.self.inside.image.now c.self.inside.state c.args.self.now c.self.view_is
+          (λ (j : Image). IsDomain j c.next_turn-turn.result.entry.domain) c.next_turn-turn.ensures.domain);
+    }
+
 pub note_switch-requires-clause-entry : goal.note_switch-requires-clause-entry
 note_switch-requires-clause-entry c =
     let within =
@@ -203,15 +234,23 @@ turn_here c =
     (λ (i : Image) (x : Hart). IsTurn (on_hart i.all.schedule c.args.h) x.slots c.next_turn-turn.result)
     (call_here c).got c.next_turn-turn.ensures.turn
 
+left_by_here : (c : AtEnd) → c.leaving-leaving.result
+    ≡ outgoing (on_hart (image_from c.self.inside.image.now).all.schedule c.args.h) c.index_mut-hart.result.now.slots
+left_by_here c =
+    value_at c.self.inside.image.now c.self.inside.state c.args.self.now c.self.view_is c.args.h c.index_mut-hart.result.now
+    (λ (i : Image) (x : Hart). c.leaving-leaving.result ≡ outgoing (on_hart i.all.schedule c.args.h) x.slots)
+    (call_here c).got c.leaving-leaving.ensures.domain
+
 leaves_here : (c : AtEnd) → option_map layout_model (option_copied c.as_ref.result)
     ≡ clone_by (guards_of c.self.inside.state.off (image_from c.self.inside.image.now))
     (outgoing (on_hart (image_from c.self.inside.image.now).all.schedule c.args.h) c.index_mut-hart.result.now.slots)
 leaves_here c =
     ap (option_map layout_model) c.as_ref.ensures.value
-    ∙ state_at c.self.inside.image.now c.self.inside.state c.args.self.now c.self.view_is c.args.h c.index_mut-hart.result.now
-    (λ (i : Image) (u : State) (x : Hart). option_map layout_model c.outgoing-out.result
-    ≡ clone_by (guards_of u.off i) (outgoing (on_hart i.all.schedule c.args.h) x.slots))
-    (call_here c).got c.outgoing-out.ensures.clone
+    ∙ of_value c.self.inside.image.now c.self.inside.state c.args.self.now c.self.view_is
+    (λ (i : Image) (u : State). option_map layout_model c.clone_of-out.result
+    ≡ clone_by (guards_of u.off i) c.leaving-leaving.result)
+    c.clone_of-out.ensures.clone
+    ∙ ap (clone_by (guards_of c.self.inside.state.off (image_from c.self.inside.image.now))) (left_by_here c)
 
 named_here : (c : AtEnd)
     → IsDomain (image_from c.self.inside.image.now) c.next_turn-turn.result.entry.domain
@@ -245,6 +284,7 @@ after c = record {
   l2 = c.switch_off-switched.new.l2;
   harts = with_item c.self.inside.state.harts c.args.h (hart_after c);
   domains = c.self.inside.state.domains;
+  mail = c.switch_boxes.new.mail;
   used = with_items c.self.inside.state.used c.note_switch.new.used;
 }
 
@@ -292,6 +332,9 @@ kept c =
     record {
       off = refl;
       memory = refl;
+      mail =
+          c.switch_boxes.ensures.switched
+          ∙ ap (λ (o : Option ℕ). switched_boxes o c.next_turn-turn.result.entry.domain c.self.inside.state.mail) (left_by_here c);
       l2 = refl;
       core = refl;
       clock = refl;

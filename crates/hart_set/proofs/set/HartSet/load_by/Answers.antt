@@ -1,6 +1,7 @@
-use Rattle.std.proofs.Common.{◌∙◌, All, length, refl, sym, ap, subst, arith}
+use Rattle.std.proofs.Common.{◌∙◌, ℕ, List, All, length, refl, sym, ap, subst, arith}
 use Rattle.std.proofs.lemmas.Result.{IfOk-from_err}
 use Rattle.mem_system.specs.Hierarchy.{Hierarchy}
+use Rattle.mail_slots.specs.Boxes.{opening}
 use Rattle.hardware_check.specs.Hardware.{IsHardware}
 use Rattle.image_check.specs.Public.{Public}
 use Rattle.image_check.specs.Image.{image_from}
@@ -18,6 +19,7 @@ state c = record {
   l2 = c.in_ok-l2.l2;
   harts = c.in_ok-l2.harts;
   domains = c.in-Ok.opened.1;
+  mail = c.in_ok-mail.mail;
   used = c.in_ok-used.used;
 }
 
@@ -29,6 +31,7 @@ loaded c =
     record {
       frames = c.in-Ok.ensures.size;
       holds = c.in-Ok.ensures.holds;
+      boxes = c.in_ok-mail.ensures.opening ∙ ap opening c.as_slice.ensures.value ∙ ap (λ (p : Public). opening p.mail) public;
       all_harts = omega (arith, c.in_ok-l2.ensures.all, c.len-2.ensures, one);
       cold =
           subst (λ (h : Hierarchy). All (IsColdHart h c.in_ok-l2.l2) c.in_ok-l2.harts.items)
@@ -38,6 +41,13 @@ loaded c =
           c.in_ok-used.ensures.all ∙ c.len.ensures.value ∙ ap (λ (p : Public). length p.schedule) public;
       unused = c.in_ok-used.ensures.unused;
     }
+
+pub new-requires : goal.new-requires
+new-requires c =
+    let few = c.runnable.ensures.runnable.boxes.few in
+    let read = ap (λ (boxes : List (ℕ × ℕ)). length boxes) c.as_slice.ensures.value in
+    let same = ap (λ (p : Public). length p.mail) c.public-public.ensures.value in
+    record { few = omega (arith, few, read, same) }
 
 pub cold_caches-requires : goal.cold_caches-requires
 cold_caches-requires c = record {
@@ -63,6 +73,13 @@ returns-in_err-used c = record {
   image = IfOk-from_err c.from_residual.result _ c.from_residual.ensures.0;
   off = IfOk-from_err c.from_residual.result _ c.from_residual.ensures.0;
   stands = IfOk-from_err c.from_residual.result _ c.from_residual.ensures.0;
+}
+
+pub returns-in_err-mail : goal.returns-in_err-mail
+returns-in_err-mail c = record {
+  image = IfOk-from_err c.from_residual-in_err-mail.result _ c.from_residual-in_err-mail.ensures.0;
+  off = IfOk-from_err c.from_residual-in_err-mail.result _ c.from_residual-in_err-mail.ensures.0;
+  stands = IfOk-from_err c.from_residual-in_err-mail.result _ c.from_residual-in_err-mail.ensures.0;
 }
 
 pub returns-in_err-l2 : goal.returns-in_err-l2

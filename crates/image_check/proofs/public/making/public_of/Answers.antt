@@ -33,4 +33,4 @@ returns c =
     let i = raw_model c.args.raw.now in
     let many : c.len-domains.result ≡ length i.domains =
     omega (arith, c.len-domains.ensures, length-map c.args.raw.now.domains.items domain_model) in
-    record { value = public_made i _ _ _ c.requires.hardware (c.in_ok-schedule.ensures.value ∙ c.requires.entries) many }
+    record { value = public_made i _ _ _ _ c.requires.hardware (c.in_ok-schedule.ensures.value ∙ c.requires.entries) many c.requires.mail }
