@@ -21,11 +21,13 @@ from browser import (  # noqa: E402
     CHROMIUM,
     CONTRAST,
     DRIVER,
+    MOST_SECONDS,
     NAMELESS,
     faults_in_console,
     keep_picture,
     look,
     look_as_ever,
+    open_until,
     started,
 )
 from selenium.webdriver import Chrome  # noqa: E402
@@ -45,7 +47,6 @@ from tp_sdk.words import SLOTS  # noqa: E402
 
 PICTURES = Path(__file__).parent / "out"
 WIDTHS = (360, 800, 1400)
-MOST_SECONDS = 60  # on a busy machine
 FEWER = EXAMPLES / "fewer-calls"
 HARTS = 4
 
@@ -506,16 +507,22 @@ def test_it_fits_and_can_be_read(view: View, width: int, theme: str) -> None:
 
 
 def test_dark_is_chosen_and_kept(view: View) -> None:
+    def colour() -> str:
+        return str(view.script("return getComputedStyle(document.body).backgroundColor"))
+
+    def forget() -> None:
+        view.script("localStorage.clear()")
+        unchosen = "return document.documentElement.dataset.theme === undefined"
+        open_until(lambda: view.open("victim"), lambda: view.script(unchosen))
+
     view.open("victim")
-    view.script("localStorage.clear()")
-    view.open("victim")
-    colour = "return getComputedStyle(document.body).backgroundColor"
-    before = view.script(colour)
+    forget()
+    before = colour()
     view.find("theme").send_keys(Keys.ENTER)
-    after = view.script(colour)
-    view.open("harts")
-    assert before != after == view.script(colour)
-    view.script("localStorage.clear()")
+    after = colour()
+    assert before != after
+    open_until(lambda: view.open("harts"), lambda: colour() == after)
+    forget()
 
 
 def test_it_prints(view: View) -> None:

@@ -3,6 +3,8 @@ which colours a page is looked at, and what is asked of every page."""
 
 from __future__ import annotations
 
+import time
+from collections.abc import Callable
 from pathlib import Path
 from typing import Any
 
@@ -11,6 +13,7 @@ from selenium.webdriver.chrome.service import Service
 
 CHROMIUM = Path("/usr/bin/chromium")
 DRIVER = Path("/usr/bin/chromedriver")
+MOST_SECONDS = 60  # on a busy machine
 
 FLAGS = (
     "--headless=new",
@@ -67,6 +70,17 @@ def started() -> webdriver.Chrome:
 def faults_in_console(driver: webdriver.Chrome) -> list[str]:
     """What the console has of faults since it was last asked."""
     return [it["message"] for it in driver.get_log("browser") if it["level"] in ("SEVERE", "WARNING")]
+
+
+def open_until(opens: Callable[[], None], is_so: Callable[[], bool]) -> None:
+    """Opens a page until it is so. What pages keep is written by another process of the browser's, which a page that is
+    opened at once may be ahead of."""
+    end = time.monotonic() + MOST_SECONDS
+    opens()
+    while not is_so():
+        assert time.monotonic() < end, "what was kept is not seen"
+        time.sleep(0.05)
+        opens()
 
 
 def look(driver: webdriver.Chrome, width: int, theme: str, height: int = 900) -> None:

@@ -24,12 +24,11 @@ TOP = Path(__file__).resolve().parents[2]
 OUT = TOP / "web" / "out"
 sys.path[:0] = [str(TOP / "sdk"), str(TOP / "web" / "data"), str(TOP / "docs" / "lessons")]
 
-from browser import faults_in_console, started  # noqa: E402
+from browser import MOST_SECONDS, faults_in_console, started  # noqa: E402
 from selenium import webdriver  # noqa: E402
 from selenium.webdriver.common.by import By  # noqa: E402
 from selenium.webdriver.support.ui import Select  # noqa: E402
 
-READY = 60  # seconds in which a page is ready on a busy machine
 GUARDS = ("flush", "prefetch", "pad", "colour", "clone", "irq")
 
 # Asks the module, in a worker of its own, for the answer of each call, one after the other.
@@ -62,7 +61,7 @@ class Page:
         self.driver.get(self.address + fragment)
         self.wait("return document.documentElement.dataset.ready === 'true'")
 
-    def wait(self, script: str, seconds: float = READY) -> Any:
+    def wait(self, script: str, seconds: float = MOST_SECONDS) -> Any:
         """Waits until a script gives something."""
         end = time.monotonic() + seconds
         while not (it := self.driver.execute_script(script)):

@@ -9,7 +9,7 @@ import time
 from typing import Any
 
 import pytest
-from browser import CONTRAST, NAMELESS, keep_picture, look, look_as_ever
+from browser import CONTRAST, NAMELESS, keep_picture, look, look_as_ever, open_until
 from clauses import ledger
 from conftest import OUT, TOP, Page
 from selenium.webdriver.common.action_chains import ActionChains
@@ -399,11 +399,18 @@ def test_it_fits_and_can_be_read(page: Page, width: int, theme: str) -> None:
 
 
 def test_dark_is_chosen_and_kept(page: Page) -> None:
-    page.script("localStorage.clear()")
-    page.open()
-    before = page.script("return getComputedStyle(document.body).backgroundColor")
+    def colour() -> str:
+        return str(page.script("return getComputedStyle(document.body).backgroundColor"))
+
+    def forget() -> None:
+        page.script("localStorage.clear()")
+        unchosen = "return document.documentElement.dataset.theme === undefined"
+        open_until(page.open, lambda: page.script(unchosen))
+
+    forget()
+    before = colour()
     page.find("theme").click()
-    after = page.script("return getComputedStyle(document.body).backgroundColor")
-    page.open()
-    assert before != after == page.script("return getComputedStyle(document.body).backgroundColor")
-    page.script("localStorage.clear()")
+    after = colour()
+    assert before != after
+    open_until(page.open, lambda: colour() == after)
+    forget()
