@@ -1,44 +1,44 @@
-"""What a sweep takes of the processors beside its runs, and that its workers end together.
+"""What a sweep takes beside its runs, and that its workers end together.
 
-What is wanted is that a thousand runs on so many processors take at most 1.3 times what the program itself takes for
-them, shared out evenly. Seconds on the wall tell little of it where others work on the machine, whose own speed drifts,
-too. So two things are held in their place, each by itself. What a sweep takes of the processors, from its start to its
-end, is at most 1.3 times what the program takes of them in these very runs, of which there are as many as are wanted:
-since each of them has a piece of the tools' work before and behind it, what makes the machine slow makes both slow. And
-how evenly the runs are given out is held by a clock that is made up. Left out is what a processor idles meanwhile: while
-one process starts, and at a run's begin and end. What comes of it all by the clock on the wall, `bench/sweep_pace`
-measures, on a machine that does nothing else."""
+What is wanted is that a thousand runs on so many processors take little more than the program itself takes for them,
+shared out evenly. Seconds tell little of it on a machine that is not one's own: another processor has another ratio of
+the tools' time to the program's, and others work beside it. So what is held closely are numbers that are the same on
+each machine: how many calls of functions, Python's and C's, a run takes of the tools; and, by a clock that is made up,
+how evenly the runs are given out. Of seconds there is a wide bound alone, against a mistake that makes a sweep several
+times as slow: what it takes of the processors, from its start to its end, is at most twice what the program takes of
+them in these very runs where each is a process, and 1.6 times that by the library, in the best of some rounds. What it
+comes to by the clock on the wall, and closely, `bench/sweep_pace` measures, on a machine that does nothing else."""
 
 from __future__ import annotations
 
 import os
 import subprocess
 import sys
-import time
 from collections.abc import Callable
 from dataclasses import dataclass
 from pathlib import Path
+from types import FrameType
 
 import pytest
 
+from tp_sdk import library, sweep
 from tp_sdk.build import build_text
 from tp_sdk.description import read_description
-from tp_sdk.program import Program
+from tp_sdk.guards import GUARDS
+from tp_sdk.library import BUILT
+from tp_sdk.program import REPOSITORY, Program
 from tp_sdk.sweeping.driving import drive
 from tp_sdk.sweeping.plan import Run
 from tp_sdk.sweeping.running import Chunk, Ran
 
 resource = pytest.importorskip("resource", reason="what processes take is not told here")
 
-# Of the program's own time; and where others work beside the sweep: between two runs a processor's caches lose the tools
-# then, which do a little of many things, and are slowed down more by it than the program.
-MOST, MOST_AMONG_OTHERS = 1.3, 1.4
-OTHERS = 0.1  # of the processors' time
+MOST_CALLS = 160  # a run: 124 were counted, by Python 3.11
+MOST_BY_PROCESSES, MOST_BY_LIBRARY = 2.0, 1.6  # times the program's own seconds
 SLOW = 0.1  # seconds
 SLOTS, MACHINES, KEYS, ROUNDS = 24, 20, 8, 5
-GUARDS_OFF = ("--off", "none,flush,prefetch,pad,colour,clone,irq")
-RUNS = MACHINES * KEYS * 7
-TICK = os.sysconf("SC_CLK_TCK")
+GUARDS_OFF = (None, *GUARDS)
+RUNS = MACHINES * KEYS * len(GUARDS_OFF)
 NOTED = Path(__file__).parent / "noted_sweep.py"
 
 
@@ -85,26 +85,64 @@ def test_workers_end_together(count: int, seconds: Callable[[int], float]) -> No
     assert max(workers.free) <= 1.05 * sum(each) / count + 5 * max(each)
 
 
+class Calls:
+    """Counts the calls of functions in a block."""
+
+    def __init__(self) -> None:
+        self.count = 0
+
+    def _called(self, frame: FrameType, event: str, of: object) -> None:
+        self.count += event in ("call", "c_call")
+
+    def __enter__(self) -> Calls:
+        sys.setprofile(self._called)
+        return self
+
+    def __exit__(self, *_: object) -> None:
+        sys.setprofile(None)
+
+
+def answering_at_once(description: Path, program: Program, room: Path) -> Path:
+    """In the program's place one that has two answers: the bounds, and the report of one run."""
+    text = build_text(read_description(description), program)
+    for name, words in (("bound", ["bound"]), ("report", ["run", "--slots", str(SLOTS)])):
+        (room / name).write_text(program.run(words, text).text)
+    script = room / "tp"
+    script.write_text('#!/bin/sh\ncd "${0%/*}" && if [ "$1" = bound ]; then cat bound; else cat report; fi\n')
+    script.chmod(0o755)
+    return script
+
+
+def test_a_run_takes_few_calls(
+    built: Path, program: Program, tmp_path: Path, monkeypatch: pytest.MonkeyPatch
+) -> None:
+    """What more runs take more, of one process that does them all."""
+    monkeypatch.setenv("TP", str(answering_at_once(built / "victim.toml", program, tmp_path)))
+
+    def calls(machines: int) -> int:
+        vary = {"machine.costs.mem": range(40, 40 + machines), "victim.key": range(KEYS)}
+        with Calls() as counted:
+            rows = sweep(built / "victim.toml", vary, off=GUARDS_OFF, slots=SLOTS, jobs=1)
+        assert len(rows) == machines * len(GUARDS_OFF)
+        return counted.count
+
+    calls(1)  # (which imports modules)
+    each = (calls(3) - calls(1)) / (2 * KEYS * len(GUARDS_OFF))
+    assert each <= MOST_CALLS, each
+
+
 @dataclass(frozen=True)
 class Swept:
     """The seconds of the processors that a sweep took from its start to its end, and those of them that the program
-    took itself for its runs; how many these were; and what others took meanwhile, as a part of all."""
+    took itself for its runs; how many these were."""
 
     taken: float
     own: float
     runs: int
-    others: float
-
-    def most(self) -> float:
-        """How many times the program's own time may be taken."""
-        return MOST if self.others < OTHERS else MOST_AMONG_OTHERS
 
     def __str__(self) -> str:
-        ratio = f"{self.taken / self.own:.3f}, where {self.most()} is the most"
-        return (
-            f"{self.taken:.2f} s of a sweep, {self.own:.2f} s of the program in its {self.runs} runs: {ratio}, "
-            f"and others took {self.others:.0%}"
-        )
+        ratio = f"{self.taken / self.own:.3f}"
+        return f"{self.taken:.2f} s of a sweep, {self.own:.2f} s of the program in its {self.runs} runs: {ratio}"
 
 
 def seconds_of_processes() -> float:
@@ -113,45 +151,44 @@ def seconds_of_processes() -> float:
     return sum(it.ru_utime + it.ru_stime for it in taken)
 
 
-def seconds_of_all() -> float:
-    """What all processes took of them since the machine began, and its host; 0 where it is not told."""
-    stat = Path("/proc/stat")
-    if not stat.exists():
-        return 0.0
-    user, nice, system, _, _, *rest = map(int, stat.read_text().split("\n", 1)[0].split()[1:9])
-    return (user + nice + system + sum(rest)) / TICK
-
-
-def sweep_once(description: Path, room: Path, machines: int = MACHINES) -> Swept:
-    """A sweep of so many machines by the whole command."""
+def sweep_once(named: Path, description: Path, room: Path, machines: int = MACHINES) -> Swept:
+    """A sweep of so many machines by the whole command, with this program or library."""
     notes = room / "notes"
     notes.mkdir(parents=True)
     vary = ("--vary", f"machine.costs.mem=40..{39 + machines}", "--vary", f"key=victim.key:0..{KEYS - 1}")
-    words = (NOTED, notes, description, *vary, *GUARDS_OFF, "--slots", str(SLOTS), "-o", room / "out.csv")
+    off = ",".join(it or "none" for it in GUARDS_OFF)
+    words = (NOTED, notes, description, *vary, "--off", off, "--slots", str(SLOTS), "-o", room / "out.csv")
     # (the tools' own modules are compiled by the first sweep, as where they can be written beside their sources)
     compiled = {"PYTHONDONTWRITEBYTECODE": "", "PYTHONPYCACHEPREFIX": str(room.parent / "compiled")}
-    before, of_all, clock = seconds_of_processes(), seconds_of_all(), time.monotonic()
-    subprocess.run([sys.executable, *words], env=os.environ | compiled, check=True)
-    taken, there = seconds_of_processes() - before, (time.monotonic() - clock) * (os.cpu_count() or 1)
+    before = seconds_of_processes()
+    subprocess.run([sys.executable, *words], env=os.environ | compiled | {"TP": str(named)}, check=True)
+    taken = seconds_of_processes() - before
     told = [it.read_text().split() for it in notes.iterdir()]
     own, runs = sum(float(it) for _, it in told), sum(int(it) for it, _ in told)
-    return Swept(taken, own, runs, (seconds_of_all() - of_all - taken) / there)
+    return Swept(taken, own, runs)
 
 
-def test_a_sweep_takes_little_beside_its_runs(built: Path, program: Program, tmp_path: Path) -> None:
+@pytest.mark.parametrize("by", ["processes", "the library"])
+def test_a_sweep_takes_little_beside_its_runs(by: str, built: Path, program: Program, tmp_path: Path) -> None:
     """A thousand runs of the victim's image, in one of some rounds: what disturbs them makes none cheaper."""
-    text = build_text(read_description(built / "victim.toml"), program)
+    named, most = (
+        (program.path, MOST_BY_PROCESSES) if by == "processes" else (REPOSITORY / BUILT, MOST_BY_LIBRARY)
+    )
+    if not named.is_file() or (by == "processes" and named.suffix == ".so"):
+        pytest.skip(f"there is none to sweep by {by}")
+    description = built / "victim.toml"
+    text = build_text(read_description(description), program)
     before = seconds_of_processes()
-    assert program.run(["run", "--slots", str(SLOTS)], text).code == 0
+    assert Program(named, library.named_by(named)).run(["run", "--slots", str(SLOTS)], text).code == 0
     if seconds_of_processes() - before > SLOW:
         pytest.skip("a run takes long: the program is one that tests itself")
-    sweep_once(built / "victim.toml", tmp_path / "first", 1)
+    sweep_once(named, description, tmp_path / "first", 1)
     rounds = []
     for number in range(ROUNDS):
-        swept = sweep_once(built / "victim.toml", tmp_path / str(number))
+        swept = sweep_once(named, description, tmp_path / str(number))
         print(swept)
         assert swept.runs == RUNS
-        if swept.taken <= swept.most() * swept.own:
+        if swept.taken <= most * swept.own:
             return
         rounds.append(f"{swept}")
-    raise AssertionError("; ".join(rounds))
+    raise AssertionError(f"{most} is the most: {'; '.join(rounds)}")
