@@ -12,7 +12,7 @@ from pathlib import Path
 
 import pytest
 from conftest import REPOSITORY, SDK, run_tool
-from test_waiting import script, wait_for
+from test_waiting import MOST_SECONDS, script, wait_for
 
 import tp_sdk
 from tp_sdk.build import build_text, set_words
@@ -419,7 +419,7 @@ def test_an_interrupt_keeps_what_is_done_and_ends_the_program(tmp_path: Path) ->
             wait_for(lambda: told.exists() and told.read_text().endswith("\n"), it)
             wait_for(lambda: len(rows_of(out)) >= 4, it)
             it.send_signal(signal.SIGINT)
-            _, said = it.communicate(timeout=30)
+            _, said = it.communicate(timeout=MOST_SECONDS)
         assert (it.returncode, said) == (130, "tp-sweep: interrupted\n")
         assert len(rows_of(out)) >= 4
         wait_until_gone(int(told.read_text()))
@@ -428,7 +428,7 @@ def test_an_interrupt_keeps_what_is_done_and_ends_the_program(tmp_path: Path) ->
 def wait_until_gone(process: int) -> None:
     import time
 
-    end = time.monotonic() + 10
+    end = time.monotonic() + MOST_SECONDS
     while time.monotonic() < end:
         try:
             os.kill(process, 0)
@@ -470,7 +470,7 @@ def test_a_program_that_is_another_one_is_told_of_by_whichever_worker_comes_firs
     command = [sys.executable, SDK / "tp-sweep", VICTIM, *words]
     for _ in range(5):
         ended = subprocess.run(
-            command, env=os.environ | {"TP": str(tp)}, capture_output=True, text=True, check=False, timeout=60
+            command, env=os.environ | {"TP": str(tp)}, capture_output=True, text=True, check=False, timeout=MOST_SECONDS
         )
         assert (ended.returncode, ended.stderr) == (
             3,

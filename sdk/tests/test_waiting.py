@@ -4,9 +4,11 @@ from __future__ import annotations
 
 import os
 import pty
+import re
 import signal
 import subprocess
 import sys
+import threading
 import time
 from collections.abc import Callable
 from pathlib import Path
@@ -39,9 +41,16 @@ cat > /dev/null
 sleep {seconds}
 echo accepted
 """
+# One that ends when a file is there.
+AWAITS = """#!/bin/sh
+cat > /dev/null
+until [ -e "{gate}" ]; do sleep 0.1; done
+echo accepted
+"""
 
 
 MOST_SECONDS = 60
+ROUNDS = 5
 
 
 def script(file: Path, text: str) -> Path:
@@ -124,8 +133,10 @@ def test_an_interrupt_ends_the_program_too(words: tuple[str, ...], tmp_path: Pat
         os.kill(int(told.read_text()), 0)
 
 
-def said_to_a_terminal(command: list[str | Path], tp: Path) -> tuple[int, str]:
-    """A command's exit code, and what it says on a terminal."""
+def said_to_a_terminal(
+    command: list[str | Path], tp: Path, heard: Callable[[str], None] = lambda said: None
+) -> tuple[int, str]:
+    """A command's exit code, and what it says on a terminal, where somebody hears it."""
     ours, its = pty.openpty()
     environment = os.environ | {"TP": str(tp)}
     with subprocess.Popen(command, env=environment, stdout=subprocess.DEVNULL, stderr=its) as it:
@@ -140,6 +151,7 @@ def said_to_a_terminal(command: list[str | Path], tp: Path) -> tuple[int, str]:
             if not part:
                 break
             said += part
+            heard(said.decode(errors="replace"))
     os.close(ours)
     return it.returncode, said.decode()
 
@@ -158,16 +170,28 @@ def said_to_a_terminal(command: list[str | Path], tp: Path) -> tuple[int, str]:
 )
 def test_a_terminal_sees_how_long_it_takes(words: tuple[str | Path, ...], tmp_path: Path) -> None:
     pytest.importorskip("tqdm")
-    slow = script(tmp_path / "tp", ACCEPTS.format(seconds=1.3))
-    _, said = said_to_a_terminal([sys.executable, SDK / words[0], *words[1:]], slow)
-    assert f"{words[0]}: 0 runs of tp ended, 00:01" in said
+    gate = tmp_path / "gate"
+    slow = script(tmp_path / "tp", AWAITS.format(gate=gate))
+    told = re.compile(rf"{words[0]}: 0 runs of tp ended, 00:0[1-9]")
+
+    def heard(said: str) -> None:
+        if told.search(said):
+            gate.touch()
+
+    late = threading.Timer(MOST_SECONDS, gate.touch)
+    late.start()
+    _, said = said_to_a_terminal([sys.executable, SDK / words[0], *words[1:]], slow, heard)
+    late.cancel()
+    assert told.search(said)
     # (and the line is cleared before another is written)
     assert said.split("ended, ")[-1].split("\r")[1].strip() == ""
 
 
 def test_what_is_quick_says_nothing(tmp_path: Path) -> None:
     quick = script(tmp_path / "tp", ACCEPTS.format(seconds=0))
-    assert said_to_a_terminal([sys.executable, SDK / "tp-image", SKELETON], quick) == (0, "")
+    command: list[str | Path] = [sys.executable, SDK / "tp-image", SKELETON]
+    # (on a busy machine it may take long for once)
+    assert any(said_to_a_terminal(command, quick) == (0, "") for _ in range(ROUNDS))
 
 
 def test_what_is_no_terminal_sees_nothing_nor_does_one_without_the_library(tmp_path: Path) -> None:
