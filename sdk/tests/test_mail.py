@@ -4,6 +4,7 @@ from __future__ import annotations
 
 import json
 import random
+import re
 import tomllib
 from pathlib import Path
 from types import SimpleNamespace
@@ -103,12 +104,56 @@ def test_the_calls_have_names(tmp_path: Path) -> None:
     assert image["domain"][0]["calls"] == [0, 19, 20]
 
 
-def test_a_refused_box_is_told_in_the_description(tmp_path: Path, program: Program) -> None:
-    file = write(tmp_path, TWO_DOMAINS + RED_TO_BLUE.format('"blue"', '"blue"'))
-    with pytest.raises(
-        Fault, match=r"mine\.toml:\d+:6: the image is refused: K20, case 3: `to` of box 0 \(blue"
-    ):
+@pytest.mark.parametrize(
+    ("mail", "told"),
+    [
+        (
+            RED_TO_BLUE.format('"blue"', '"blue"'),
+            '4:6: the image is refused: K20, case 3: `to` of box 0 (blue to blue) is `"blue"`: `from` and `to` are '
+            "one domain; wanted: a box from domain 1 (blue) to another domain; the other is `from` of box 0 (blue "
+            'to blue): `"blue"`, 3:8',
+        ),
+        (
+            RED_TO_BLUE.format(0, '"blue"') + RED_TO_BLUE.format('"red"', 1),
+            "8:6: the image is refused: K20, case 4: `to` of box 1 (red to blue) is `1`: an earlier box is from and "
+            "to the same; wanted: one box at most from a domain to another; the other is `to` of box 0 (red to "
+            'blue): `"blue"`, 4:6',
+        ),
+        (
+            RED_TO_BLUE.format('"red"', 2),
+            "4:6: the image is refused: K20, case 2: `to` of box 0 (from red) is `2`: there is no such domain; "
+            "wanted: the place of a domain, from 0",
+        ),
+        (
+            RED_TO_BLUE.format('"red"', '"blue"') * 65,
+            "2:1: the image is refused: K20, case 1: `mail`: there are more than 64; wanted: 64 boxes or fewer (here "
+            "65 stand)",
+        ),
+    ],
+)
+def test_a_refused_box_is_told_in_the_description(
+    tmp_path: Path, mail: str, told: str, program: Program
+) -> None:
+    file = write(tmp_path, TWO_DOMAINS + mail)
+    with pytest.raises(Fault) as raised:
         build_text(read_description(file), program)
+    before = TWO_DOMAINS.count("\n")
+
+    def place(match: re.Match[str]) -> str:
+        return f"{match[1]}{file}:{before + int(match[2])}:{match[3]}"
+
+    assert str(raised.value) == re.sub(r"(^|, )(\d+):(\d+)", place, told)
+
+
+def test_an_entry_that_clashes_is_told_by_its_domains_name(tmp_path: Path, program: Program) -> None:
+    entry = '\n[[schedule]]\ndomain = "red"\nlength = 10000\npad = 6150\nhart = {}\n'
+    text = TWO_DOMAINS.replace("[[schedule]]\ndomain = 0", '[[schedule]]\ndomain = "red"')
+    file = write(tmp_path, text + entry.format(1))
+    with pytest.raises(Fault) as raised:
+        build_text(read_description(file), program)
+    own = r"`hart` of entry 2 \(red\) is `1`: an earlier entry gives the domain to another hart"
+    other = r'the other is `domain` of entry 0 \(red\): `"red"`, '
+    assert re.search(rf"K19, case 3: {own}; .*; {other}", str(raised.value))
 
 
 # ---- in sentences

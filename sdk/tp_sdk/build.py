@@ -3,6 +3,7 @@
 from __future__ import annotations
 
 import re
+from dataclasses import replace
 from pathlib import Path
 from typing import TYPE_CHECKING
 
@@ -110,17 +111,26 @@ def refuse_broken(text: str, file: Path, ended: Ended, name: str | None = None) 
     """Faults an image's text, by how the program ended on it. The first rule that it breaks is told with its
     place in the file or, where nobody wrote the text, with the name of it."""
     told = _broken(text, file, ended)
-    if told is not None:
-        where = name or f"{file}:{told.line}:{told.column}"
-        raise Refused(f"{where}: the image is refused: {told.reason()}", told.refusal)
+    if told is None:
+        return
+    if name is not None:
+        raise Refused(f"{name}: the image is refused: {told.reason()}", told.refusal)
+    where, it = f"{file}:{told.line}:{told.column}", told.other
+    other = "" if it is None else it.told(f"{file}:{it.line}:{it.column}")
+    raise Refused(f"{where}: the image is refused: {told.reason()}{other}", told.refusal)
 
 
 def refuse_described(description: Description, text: str, ended: Ended) -> None:
-    """Faults the image of a description so: what is told is the place in the description."""
+    """Faults the image of a description so: what is told is the place in the description, and what stands there."""
     told = _broken(text, description.file, ended)
-    if told is not None:
-        where = description.place(told.path)
-        raise Refused(f"{where}: the image is refused: {told.reason()}", told.refusal)
+    if told is None:
+        return
+    where, other = description.place(told.path), ""
+    told = replace(told, stands=description.name_at(told.path) or told.stands)
+    if told.other is not None:
+        it = replace(told.other, stands=description.name_at(told.other.path) or told.other.stands)
+        other = it.told(description.place(it.path))
+    raise Refused(f"{where}: the image is refused: {told.reason()}{other}", told.refusal)
 
 
 def _broken(text: str, file: Path, ended: Ended) -> Explanation | None:

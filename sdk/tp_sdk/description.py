@@ -216,6 +216,17 @@ class Description:
         is_of_machine = bool(path) and path[0] in MACHINE_KEYS
         return (self.machine_text if is_of_machine else self.text).place(path)
 
+    def name_at(self, path: toml_places.Path) -> str:
+        """The name that stands there, of the domain whose number the image has."""
+        match path:
+            case ("schedule", int(number), "domain"):
+                domain = self.schedule[number].domain
+            case ("mail", int(number), str(key)) if key in BOX_ENDS:
+                domain = self.boxes[number].ends[BOX_ENDS.index(key)][1]
+            case _:
+                return ""
+        return f'`"{domain}"`' if isinstance(domain, str) else ""
+
 
 def read_description(file: Path, given: str | None = None, told: Told | None = None) -> Description:
     """Reads a description, from its file where no text is given; the files that it names are looked for

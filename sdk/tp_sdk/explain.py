@@ -26,8 +26,13 @@ class Other:
 
     line: int
     column: int
+    path: Path
     what: str
     stands: str
+
+    def told(self, place: str) -> str:
+        """What is said of it after the reason."""
+        return f"; the other is {self.what}: {self.stands}, {place}"
 
 
 @dataclass(frozen=True)
@@ -58,10 +63,8 @@ class Explanation:
     def sentence(self, also: bool = False) -> str:
         """One line, as compilers write it; `also` marks one that isn't the program's."""
         line = f"{self.file}:{self.line}:{self.column}: {'also ' if also else ''}{self.reason()}"
-        if self.other is None:
-            return line
         it = self.other
-        return f"{line}; the other is {it.what}: {it.stands}, {self.file}:{it.line}:{it.column}"
+        return line if it is None else line + it.told(f"{self.file}:{it.line}:{it.column}")
 
     def fields(self) -> dict[str, Any]:
         """What `--json` writes."""
@@ -133,7 +136,7 @@ class _OfImage:
             case.name,
             path,
             label(path, self.image),
-            "" if case.is_of_key else _stands(path, self.places),
+            "" if case.is_of_key else stands_at(path, self.places),
             case.broken.format(**words),
             case.wants.format(**words),
             str(refusal),
@@ -160,7 +163,7 @@ class _OfImage:
         if path is None or path not in self.places.values:
             return None
         at = self.places.position(self.places.values[path].start)
-        return Other(at.line, at.column, label(path, self.image), _stands(path, self.places))
+        return Other(at.line, at.column, path, label(path, self.image), stands_at(path, self.places))
 
     def _hint(self, path: Path) -> str:
         """Whether another key, or another policy, was meant."""
@@ -192,7 +195,8 @@ class _OtherDomain:
         return _domain(getattr(self.refusal, number), self.image)
 
 
-def _stands(path: Path, places: Places) -> str:
+def stands_at(path: Path, places: Places) -> str:
+    """What a text has in a place, as far as it is short."""
     if path not in places.values:
         return "" if path in places.keys else "missing"
     span = places.values[path]
