@@ -118,7 +118,8 @@ def test_an_image_that_is_refused_tells_the_first_rule_that_it_breaks(program: P
     assert raised.value.refusal == (EXAMPLES / "refused-k9.report").read_text().strip()
     assert str(raised.value) == (
         f"{file}:27:15: the image is refused: K9: `colours[1]` of domain 1 (blue) is `1`: the colour is one "
-        "of domain 0 (red); wanted: a colour that no earlier domain has"
+        "of domain 0 (red); wanted: a colour that no earlier domain has; the other is `colours[0]` of domain 0 "
+        f"(red): `1`, {file}:21:12"
     )
     told = "<text>:1:1: the image is refused: K2: `frames` is missing: row 1 of the table of keys is broken"
     assert fault(lambda: Image.parse("a = 3"), Refused).startswith(told)
