@@ -1,0 +1,4 @@
+pub mod Prefixes
+pub mod Counts
+pub mod Ends
+pub mod Turns

@@ -1,0 +1,4 @@
+-- The order of two harts' switches by the schedule alone.
+pub mod Apart
+pub mod Turns
+pub mod Laws
