@@ -1,7 +1,7 @@
 -- How many switches harts have had after one event.
 use Rattle.std.proofs.Common.{None, ◌≡◌, ◌≢◌, ◌⊎◌, ℕ, suc, ◌+◌, ◌<◌, ◌≤◌, Bool, true, false, ltb, true≢false, inl, inr, ap, sym, ◌∙◌, refl, subst, arith}
 use Rattle.std.specs.Prelude.{if◌then◌else◌}
-use Rattle.std.proofs.lemmas.Bool.{cases_eq}
+use Rattle.std.proofs.lemmas.Bool.{cases_eq, cases_order}
 use Rattle.sched_table.specs.Schedule.{harts_in}
 use Rattle.image_check.specs.Image.{Image}
 use Rattle.image_check.specs.Laws.{Runnable}
@@ -12,6 +12,13 @@ use Rattle.world_view.proofs.harts.Runs.{Running, progress-same}
 use Rattle.world_view.proofs.harts.Clocks.{hart_stays}
 use Rattle.world_view.proofs.harts.Always.{time}
 use Rattle.world_view.proofs.mail.BoxEvents.{in_or_out}
+
+pub cases_le : (a b : ℕ) → (a ≤ b) ⊎ (b < a)
+cases_le a b = elim (cases_order a b) [
+  | inl same ↦ inl (omega (arith, same))
+  | inr (inl less) ↦ inl (omega (arith, less))
+  | inr (inr more) ↦ inr more
+]
 
 -- an event is a switch of a hart
 pub record IsSwitch (h x : ℕ) (s : Harts) : Type 0 where

@@ -2,3 +2,8 @@ pub mod Prefixes
 pub mod Counts
 pub mod Ends
 pub mod Turns
+pub mod Sides
+pub mod Waits
+pub mod Boxes
+pub mod Both
+pub mod Chain

@@ -20,7 +20,7 @@ use Rattle.mail_orders.specs.Apart.{longest_in, EndsBefore, AreApart}
 use Rattle.mail_orders.specs.Turns.{Passes}
 use Rattle.mail_orders.specs.Laws.{TurnsLaw, BootsLaw}
 use Rattle.mail_orders.proofs.Prefixes.{all_before, each_prefix}
-use Rattle.mail_orders.proofs.Counts.{IsSwitch, switch_or_not, count_at, count_outside, slots_fewer, count_stays, count_more, count_rises}
+use Rattle.mail_orders.proofs.Counts.{cases_le, IsSwitch, switch_or_not, count_at, count_outside, slots_fewer, count_stays, count_more, count_rises}
 use Rattle.mail_orders.proofs.Ends.{late, early, unbooted, ends_past}
 
 pub none_first : (i : Image) (r : Runnable i) (h : ℕ) → switches_of h (harts i []) ≡ 0
@@ -80,7 +80,7 @@ module _ (i : Image) (r : Runnable i) (n : ℕ) where
     -- at its switch after slot m hart h's clock is the least, so hart g, which would be behind, has switched after slot k
     turned : (g k h m : ℕ) → g < many → suc k < n → EndsBefore i g k h m → IsSwitch h x s
         → suc (suc m) ≤ switches_of h s' → suc (suc k) ≤ switches_of g s
-    turned g k h m is few ends w had = elim (early_or (switches_of g s) (suc k)) [
+    turned g k h m is few ends w had = elim (cases_le (switches_of g s) (suc k)) [
       | inl behind ↦
           let slots = slots_fewer g s in
           let clock = least g is (omega (arith, few, behind, slots)) in
@@ -93,14 +93,6 @@ module _ (i : Image) (r : Runnable i) (n : ℕ) where
           absurd (omega (arith, clock, soon, past, end, ends))
       | inr done ↦ done
     ]
-      where
-        early_or : (a b : ℕ) → (a ≤ b) ⊎ (suc b ≤ a)
-        early_or zero b = inl (omega arith)
-        early_or (suc a) zero = inr (omega arith)
-        early_or (suc a) (suc b) = elim (early_or a b) [
-          | inl le ↦ inl (omega (arith, le))
-          | inr lt ↦ inr (omega (arith, lt))
-        ]
 
     -- at any after its first slot no hart's clock stands at 0
     booted : (g h : ℕ) → g < many → IsSwitch h x s → 2 ≤ switches_of h s' → 1 ≤ switches_of g s
