@@ -7,3 +7,4 @@ pub mod Waits
 pub mod Boxes
 pub mod Both
 pub mod Chain
+pub mod Apart
