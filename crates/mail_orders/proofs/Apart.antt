@@ -1,17 +1,17 @@
 -- What is seen of a domain, by what came to it: in runs in which harts take the same turns, and so by the least clock where the
 -- ends of slots lie apart.
-use Rattle.std.proofs.Common.{◌≡◌, ◌≢◌, ◌++◌, ℕ, zero, suc, ◌<◌, List, Some, inl, inr, ap, ap₂, sym, ◌∙◌, refl, subst, subst₂, arith}
+use Rattle.std.proofs.Common.{◌≡◌, ◌≢◌, ℕ, zero, suc, ◌<◌, List, Some, inl, inr, ap, ap₂, sym, ◌∙◌, refl, subst, subst₂, arith}
 use Rattle.std.specs.Prelude.{slice_get}
 use Rattle.sched_table.specs.Schedule.{hart_for, harts_in}
 use Rattle.image_check.specs.Public.{Public}
 use Rattle.image_check.specs.Own.{Own}
-use Rattle.image_check.specs.Image.{Image, own_of}
+use Rattle.image_check.specs.Image.{Image}
 use Rattle.image_check.specs.Laws.{Runnable}
 use Rattle.mail_slots.specs.Sides.{Arrival}
 use Rattle.world_view.specs.Machine.{arrivals}
 use Rattle.world_view.specs.View.{view_mailed}
 use Rattle.world_view.specs.Relations.{IsDomain}
-use Rattle.world_view.specs.Harts.{Harts, IsOutside, public_on, hart_of_domain, slots_of, switches_of, harts, view_on, view_mailed_on}
+use Rattle.world_view.specs.Harts.{IsOutside, public_on, hart_of_domain, slots_of, switches_of, harts, view_on, view_mailed_on}
 use Rattle.world_view.specs.HartLaws.{AreHartsOf, IsBetween}
 use Rattle.world_view.specs.MailLaws.{LeadsBy, Leads}
 use Rattle.world_view.proofs.harts.Runs.{home}

@@ -1,5 +1,5 @@
 -- A switch of one hart in two runs, between slots of the same number: the same goes off, waits and comes.
-use Rattle.std.proofs.Common.{◌≡◌, ◌++◌, ℕ, suc, ◌<◌, List, [], ◌∷◌, Option, Some, ap, ap₂, sym, ◌∙◌, refl, subst, arith}
+use Rattle.std.proofs.Common.{◌≡◌, ◌++◌, ℕ, suc, ◌<◌, [], ◌∷◌, Option, Some, ap, ap₂, sym, ◌∙◌, subst, arith}
 use Rattle.std.specs.Prelude.{slice_get}
 use Rattle.sched_table.specs.Schedule.{entry_of_slot, on_hart, outgoing, harts_in}
 use Rattle.image_check.specs.Public.{Public}
@@ -18,7 +18,7 @@ use Rattle.world_view.proofs.harts.Runs.{Running}
 use Rattle.world_view.proofs.mail.Moves.{box_switched, switched_at, changed_from}
 use Rattle.world_view.proofs.mail.Alike.{came_alike}
 use Rattle.world_view.proofs.mail.BoxEvents.{switched_are, switched_came}
-use Rattle.mail_orders.proofs.Boxes.{switched_sent, AreAlike, left_alike}
+use Rattle.mail_orders.proofs.Boxes.{switched_sent, left_alike}
 use Rattle.mail_orders.proofs.Sides.{out_same}
 use Rattle.mail_orders.proofs.Waits.{IsLeaver, leaver, mail_of, ends_of}
 

@@ -1,5 +1,5 @@
 -- Boxes of two runs that are alike one by one: what comes out of them at a switch is, too.
-use Rattle.std.proofs.Common.{◌≡◌, ◌≢◌, ◌⊎◌, ℕ, zero, suc, Bool, true, false, eqb, eq-eqb, ne_eqb, List, [], ◌∷◌, map, Option, Some, None, inl, inr, ap, ap₂, sym, ◌∙◌, refl}
+use Rattle.std.proofs.Common.{◌≡◌, ◌≢◌, ◌⊎◌, ℕ, suc, Bool, eq-eqb, ne_eqb, List, [], ◌∷◌, map, Option, Some, None, inl, inr, ap, ap₂, sym, ◌∙◌, refl}
 use Rattle.std.specs.Prelude.{slice_get, if◌then◌else◌}
 use Rattle.std.proofs.lemmas.Bool.{cases_eq}
 use Rattle.std.proofs.lemmas.Option.{same_Some}

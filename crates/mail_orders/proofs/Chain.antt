@@ -4,26 +4,22 @@ use Rattle.std.proofs.Common.{◌≡◌, ◌≢◌, ◌⊎◌, ◌++◌, ℕ, su
 use Rattle.std.specs.Prelude.{slice_get}
 use Rattle.std.proofs.lemmas.Bool.{cases_eq, cases_order}
 use Rattle.std.proofs.lemmas.List.{append-nil, append_assoc}
-use Rattle.std.proofs.lemmas.List.Elements.{All-nil}
 use Rattle.sched_table.specs.Schedule.{hart_for, harts_in}
 use Rattle.image_check.specs.Public.{Public}
 use Rattle.image_check.specs.Image.{Image, own_of}
 use Rattle.image_check.specs.Laws.{Runnable}
-use Rattle.mail_slots.specs.Boxes.{Mailbox}
-use Rattle.mail_slots.specs.Laws.{pair_of}
-use Rattle.world_view.specs.Mail.{Came, arrivals_in}
 use Rattle.world_view.specs.Machine.{arrivals}
-use Rattle.world_view.specs.Harts.{Harts, IsOutside, hart_of_domain, slots_of, switches_of, next, harts, harts_by, after_by}
+use Rattle.world_view.specs.Harts.{Harts, IsOutside, hart_of_domain, slots_of, switches_of, next, harts}
 use Rattle.world_view.specs.HartLaws.{AreHartsOf}
 use Rattle.world_view.specs.MailLaws.{Leads}
-use Rattle.world_view.proofs.harts.Runs.{Running, came_cold}
+use Rattle.world_view.proofs.harts.Runs.{Running}
 use Rattle.world_view.proofs.harts.Isolation.{running, next_law}
-use Rattle.mail_orders.specs.Turns.{Passes, TakeTurns, ChainTakesTurns}
+use Rattle.mail_orders.specs.Turns.{TakeTurns, ChainTakesTurns}
 use Rattle.mail_orders.proofs.Prefixes.{all_before, holds_next, each_prefix}
-use Rattle.mail_orders.proofs.Counts.{cases_le, IsSwitch, switch_or_not, count_outside, count_other, count_stays, count_more}
+use Rattle.mail_orders.proofs.Counts.{IsSwitch, switch_or_not, count_outside, count_other, count_stays, count_more}
 use Rattle.mail_orders.proofs.Turns.{none_first}
 use Rattle.mail_orders.proofs.Waits.{ends_of, came_stays, waits_still, NoneCame, none_came, NoneSent, none_sent}
-use Rattle.mail_orders.proofs.Both.{SameSent, leads_more, sent_next, came_next}
+use Rattle.mail_orders.proofs.Both.{SameSent, sent_next, came_next}
 
 module _ (i j : Image) (d : ℕ) (r : Runnable i) (q : Runnable j) (all : i.all ≡ j.all)
     (own : (e : ℕ) → Leads i d e → own_of i e ≡ own_of j e) where

@@ -1,14 +1,13 @@
 -- Between which cycles a hart's clock lies by how many switches it has had.
-use Rattle.std.proofs.Common.{◌≡◌, ◌≢◌, ◌⊎◌, ℕ, zero, suc, ◌+◌, ◌<◌, ◌≤◌, Bool, true, false, true≢false, List, [], inl, inr, ap, sym, ◌∙◌, refl, subst, arith}
-use Rattle.std.specs.Prelude.{if◌then◌else◌}
+use Rattle.std.proofs.Common.{◌≡◌, ◌≢◌, ◌⊎◌, ℕ, zero, suc, ◌+◌, ◌<◌, ◌≤◌, true≢false, List, [], inl, inr, ap, sym, ◌∙◌, refl, subst, arith}
 use Rattle.std.proofs.lemmas.Bool.{cases_eq}
 use Rattle.sched_table.specs.Schedule.{start, on_hart, harts_in}
 use Rattle.sched_table.proofs.Starts.{order_law}
-use Rattle.image_check.specs.Image.{Image, own_of}
+use Rattle.image_check.specs.Image.{Image}
 use Rattle.image_check.specs.Laws.{Runnable}
 use Rattle.world_view.specs.Machine.{Hart, clock_of}
 use Rattle.world_view.specs.Relations.{InTime}
-use Rattle.world_view.specs.Harts.{Harts, IsInSlot, IsOutside, image_on, start_on, end_on, progress_of, slots_of, switches_of, next, all_cold, harts, after_by, harts_by}
+use Rattle.world_view.specs.Harts.{Harts, IsOutside, image_on, start_on, end_on, slots_of, switches_of, next, harts, after_by, harts_by}
 use Rattle.world_view.specs.HartLaws.{AreHartsOf}
 use Rattle.world_view.proofs.harts.OnHart.{lasts}
 use Rattle.world_view.proofs.harts.Runs.{Running, all_cold_are}
@@ -17,8 +16,8 @@ use Rattle.world_view.proofs.harts.Clocks.{hart_between, hart_stays}
 use Rattle.world_view.proofs.harts.Always.{always, inside, time}
 use Rattle.world_view.proofs.mail.BoxEvents.{in_or_out}
 use Rattle.mail_orders.specs.Apart.{longest_in}
-use Rattle.mail_orders.specs.Laws.{IsDue, DueLaw}
-use Rattle.mail_orders.proofs.Counts.{IsSwitch, switch_or_not, count_outside, count_inside, slots_fewer, count_more, count_stays}
+use Rattle.mail_orders.specs.Laws.{DueLaw}
+use Rattle.mail_orders.proofs.Counts.{count_outside, count_inside, count_more, count_stays}
 
 -- later slots end later
 pub ends_later : (i : Image) (h m k : ℕ) → m ≤ k → end_on i h m ≤ end_on i h k

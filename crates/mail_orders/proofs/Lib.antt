@@ -8,3 +8,4 @@ pub mod Boxes
 pub mod Both
 pub mod Chain
 pub mod Apart
+pub mod Rows

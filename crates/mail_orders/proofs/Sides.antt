@@ -1,5 +1,5 @@
 -- What a domain has put in between two slots of its hart: in two runs the same, where the same came to it.
-use Rattle.std.proofs.Common.{◌≡◌, ◌≢◌, ℕ, zero, suc, Bool, true, false, eqb, eq-eqb, List, [], Option, Some, ap, ap₂, sym, ◌∙◌, refl, subst, arith}
+use Rattle.std.proofs.Common.{◌≡◌, ℕ, zero, suc, Bool, true, false, eqb, eq-eqb, List, [], Some, ap, ap₂, sym, ◌∙◌, subst}
 use Rattle.std.specs.Prelude.{slice_get, option_map, if◌then◌else◌}
 use Rattle.std.proofs.lemmas.Option.{same_Some, slice_get-map}
 use Rattle.sched_table.specs.Schedule.{entry_of_slot, hart_for}
@@ -70,7 +70,7 @@ module _ (i j : Image) (r : Runnable i) (q : Runnable j) (all : i.all ≡ j.all)
   unfolding own_side
   out_same a x y at at' from from' =
       let its : (boxes : Boxes) (b : Mailbox) → slice_get boxes a ≡ Some b
-          → slice_get (own_side d boxes) a ≡ Some (own_part d b) =
+      → slice_get (own_side d boxes) a ≡ Some (own_part d b) =
       λ boxes b is. slice_get-map (own_part d) boxes a ∙ ap (option_map (own_part d)) is in
       let both = sym (its s.world.storage.boxes x at) ∙ ap (λ (bs : Boxes). slice_get bs a) side_same ∙ its t.world.storage.boxes y at' in
       sym (out_own x from) ∙ ap (λ (b : Mailbox). b.out) (same_Some _ _ both) ∙ out_own y from'

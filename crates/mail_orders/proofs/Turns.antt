@@ -1,12 +1,12 @@
 -- In the order of the least clock: whose switch comes first, by the ends of slots.
-use Rattle.std.proofs.Common.{◌≡◌, ◌≢◌, ◌⊎◌, ◌++◌, ℕ, zero, suc, ◌+◌, ◌<◌, ◌≤◌, List, [], ◌∷◌, length, Some, inl, inr, ap, sym, ◌∙◌, refl, subst, arith}
+use Rattle.std.proofs.Common.{◌≡◌, ◌++◌, ℕ, zero, suc, ◌<◌, ◌≤◌, List, [], ◌∷◌, length, Some, inl, inr, ap, sym, ◌∙◌, refl, subst, arith}
 use Rattle.sched_table.specs.Schedule.{harts_in}
 use Rattle.image_check.specs.Public.{Public}
 use Rattle.image_check.specs.Image.{Image, own_of}
 use Rattle.image_check.specs.Laws.{Runnable}
 use Rattle.world_view.specs.Kernel.{no_dom}
 use Rattle.world_view.specs.Machine.{clock_of}
-use Rattle.world_view.specs.Harts.{Harts, Progress, domain_in, end_on, slots_of, switches_of, next, harts}
+use Rattle.world_view.specs.Harts.{Harts, domain_in, end_on, slots_of, switches_of, harts}
 use Rattle.world_view.specs.HartLaws.{AreHartsOf}
 use Rattle.world_view.proofs.opening.Separate.{separated}
 use Rattle.world_view.proofs.time.ActCosts.{instruction_within}

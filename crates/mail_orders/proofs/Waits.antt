@@ -1,25 +1,22 @@
 -- What waits in a box, and what came to a domain, after one event: only switches of the two harts change it.
-use Rattle.std.proofs.Common.{◌≡◌, ◌≢◌, ◌⊎◌, ◌++◌, ℕ, zero, suc, ◌<◌, ◌≤◌, List, [], ◌∷◌, Option, Some, inl, inr, ap, sym, ◌∙◌, refl, subst, arith}
+use Rattle.std.proofs.Common.{◌≡◌, ◌++◌, ℕ, zero, suc, ◌<◌, ◌≤◌, List, [], ◌∷◌, Some, inl, inr, ap, sym, ◌∙◌, refl, subst, arith}
 use Rattle.std.specs.Prelude.{slice_get, option_map}
 use Rattle.std.specs.List.{All}
 use Rattle.std.proofs.lemmas.List.Elements.{All-nil}
 use Rattle.std.proofs.lemmas.Option.{same_Some, slice_get-map}
-use Rattle.sched_table.specs.declared.schedule.Entry.{Entry}
 use Rattle.sched_table.specs.Schedule.{outgoing, harts_in}
 use Rattle.image_check.specs.Image.{Image}
 use Rattle.image_check.specs.Laws.{Runnable}
-use Rattle.mail_slots.specs.Boxes.{Mailbox, Boxes}
+use Rattle.mail_slots.specs.Boxes.{Mailbox}
 use Rattle.mail_slots.specs.Laws.{pair_of, pairs_of}
-use Rattle.world_view.specs.Mail.{Came, arrivals_in, came_to}
+use Rattle.world_view.specs.Mail.{arrivals_in, came_to}
 use Rattle.world_view.specs.Machine.{arrivals}
 use Rattle.world_view.specs.Relations.{IsDomain}
 use Rattle.world_view.specs.Harts.{Harts, image_on, domain_in, hart_of_domain, domain_on, slots_of, switches_of, next, harts, harts_by, after_by}
 use Rattle.world_view.specs.Laws.{leaves_on}
-use Rattle.world_view.specs.MailLaws.{Enters, GoesOff, NoneGoesOff}
 use Rattle.world_view.proofs.runs.Arrivals.{none_more}
 use Rattle.world_view.proofs.harts.OnHart.{separated_on, hart_is}
 use Rattle.world_view.proofs.harts.Runs.{Running, came_cold, next_so}
-use Rattle.world_view.proofs.harts.Isolation.{running}
 use Rattle.world_view.proofs.harts.Always.{always}
 use Rattle.world_view.proofs.mail.Moves.{some_or_none}
 use Rattle.world_view.proofs.mail.BoxEvents.{in_or_out, slot_came, switched_came, enters_or_not, goes_or_not, leaves_so, before_at}

@@ -2,3 +2,4 @@
 pub mod Apart
 pub mod Turns
 pub mod Laws
+pub mod Example
