@@ -1,4 +1,4 @@
--- The laws of the order of two harts' switches, and of what is seen by it; they are the clauses of functions of `laws`.
+-- The laws of the order of two harts' switches, and of what is seen by it: the clauses of functions of `laws`.
 use Rattle.std.specs.Prelude.{◌≡◌, ◌≢◌, ℕ, suc, ◌+◌, ◌<◌, ◌≤◌, List, ◌++◌}
 use Rattle.sched_table.specs.Schedule.{harts_in}
 use Rattle.image_check.specs.Image.{Image, own_of}
@@ -64,13 +64,13 @@ OwnHartLaw = (i j : Image) (d : ℕ) (one two : List ℕ) → Runnable i → Run
     let t = harts j two in
     slots_of h s ≡ slots_of h t → IsBetween i h s → IsBetween j h t → view_on i d s ≡ view_on j d t
 
--- and by the least clock, where the ends of slots lie apart
+-- and by the least clock, where the ends of slots lie apart: in both, since the longest events of other domains may differ
 abbrev pub ApartLaw : Type 0
 ApartLaw = (i j : Image) (d n : ℕ) → Runnable i → Runnable j → IsDomain i d → i.all ≡ j.all
     → ((e : ℕ) → Leads i d e → own_of i e ≡ own_of j e) → ChainApart i d n → ChainApart j d n
     → view_in i d (ran i LeastClock n) ≡ view_in j d (ran j LeastClock n)
 
--- so nothing comes back: what is seen of a domain is the same whatever another is from which no chain of boxes leads to it
+-- so nothing comes back: what is seen of a domain is the same whatever another is from which no chain leads to it
 abbrev pub NothingBackLaw : Type 0
 NothingBackLaw = (i j : Image) (d r n : ℕ) → Runnable i → Runnable j → IsDomain i d → i.all ≡ j.all
     → ((e : ℕ) → e ≢ r → own_of i e ≡ own_of j e) → (Leads i d r → ⊥) → ChainApart i d n → ChainApart j d n

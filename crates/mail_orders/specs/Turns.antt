@@ -4,7 +4,7 @@ use Rattle.image_check.specs.Image.{Image}
 use Rattle.world_view.specs.Harts.{Harts, hart_of_domain, switches_of, harts}
 use Rattle.world_view.specs.MailLaws.{Leads}
 
--- hart h has had more switches here than there, and hart g fewer: so one of h and one of g come in another order there
+-- hart h has had more switches here than there, and hart g fewer: so two of theirs come in another order there
 pub record Passes (h g : ℕ) (here there : Harts) : Type 0 where
   pub more : switches_of h there < switches_of h here
   pub fewer : switches_of g here < switches_of g there
