@@ -9,7 +9,7 @@ use Rattle.image_check.specs.Image.{Image}
 use Rattle.image_check.specs.Laws.{Runnable}
 use Rattle.mail_slots.specs.Sides.{Arrival}
 use Rattle.world_view.specs.Machine.{arrivals}
-use Rattle.world_view.specs.View.{view_mailed}
+use Rattle.world_view.specs.View.{View, view_mailed}
 use Rattle.world_view.specs.Relations.{IsDomain}
 use Rattle.world_view.specs.Harts.{IsOutside, public_on, hart_of_domain, slots_of, switches_of, harts, view_on, view_mailed_on}
 use Rattle.world_view.specs.HartLaws.{AreHartsOf, IsBetween}
@@ -51,8 +51,10 @@ same_turns i j d one two r q id all own below below' turns slots early late =
     count_outside h s (outside i h one r below is early) ∙ slots
     ∙ sym (count_outside h t (outside j h two q below' is' late)) in
     let came = same_came i j d r q all own one two below below' turns d leads count in
+    let seen : Public → Own → View =
+    λ p o. view_mailed (public_on p (hart_for p.schedule d)) o d (arrivals d s.world) (slots_of h s) in
     hart_mail i d one r id below early
-    ∙ ap₂ (λ (p : Public) (o : Own). view_mailed (public_on p (hart_for p.schedule d)) o d (arrivals d s.world) (slots_of h s)) all (own d leads)
+    ∙ ap₂ seen all (own d leads)
     ∙ ap₂ (λ (xs : List Arrival) (k : ℕ). view_mailed_on j d xs k) came (slots ∙ ap (λ (g : ℕ). slots_of g t) at)
     ∙ sym (hart_mail j d two q id' below' (subst (λ (g : ℕ). IsBetween j g t) at late))
 

@@ -95,7 +95,8 @@ module _ (i j : Image) (d : ℕ) (r : Runnable i) (q : Runnable j) (all : i.all 
       changed_from (box_switched out into) (slice_get t.world.storage.boxes a) later'
       (sym (switched_at out into t.world.storage.boxes a)
       ∙ ap (λ (bs : Boxes). slice_get bs a)
-      (sym (switched_are j x t outside' ∙ ap₂ (λ (o : Option ℕ) (n : ℕ). switched_boxes o n t.world.storage.boxes) (sym out_is) (sym into_is)))
+      (sym (switched_are j x t outside'
+      ∙ ap₂ (λ (o : Option ℕ) (n : ℕ). switched_boxes o n t.world.storage.boxes) (sym out_is) (sym into_is)))
       ∙ at') in
       ap (λ (b : Mailbox). b.sent) (sym from.2)
       ∙ switched_box a e f mail leads from.0 from'.0 from.1 from'.1 (before from.0 from'.0 from.1 from'.1)

@@ -361,13 +361,11 @@ module _ (i j : Image) (d : ℕ) (r : Runnable i) (q : Runnable j) (all : i.all 
             let there = next_law j past y in
             let after = split_more one before later x split in
             let after' = split_more two past rest y split' in
-            let over : (P : Harts → Harts → Type 0) → P (harts i (before ++ x ∷ [])) (harts j (past ++ y ∷ [])) → P (next i x s) (next j y t) =
-            λ P p. subst₂ P here there p in
             subst₂ AreSame (sym here) (sym there)
             (same_step x y (holds_next (λ (h : ℕ). h < many) before later x (subst (AreHartsOf i) split below))
             (holds_next (λ (h : ℕ). h < many') past rest y (subst (AreHartsOf j) split' below')) s t
             (running_at before (x ∷ later) past (y ∷ rest) split split')
-            (over AreRunning (running_at (before ++ x ∷ []) later (past ++ y ∷ []) rest after after'))
+            (subst₂ AreRunning here there (running_at (before ++ x ∷ []) later (past ++ y ∷ []) rest after after'))
             (same past (y ∷ rest) split')
             (subst (λ (u : Harts). AreSame u t) here right)
             (subst (AreSame s) there (same (past ++ y ∷ []) rest after'))

@@ -1,4 +1,4 @@
--- When the ends of two harts' slots lie apart by more than an event.
+-- When the ends of two harts' slots lie apart by the longest event, or more.
 use Rattle.std.specs.Prelude.{◌≡◌, ◌≢◌, ℕ, suc, ◌+◌, ◌<◌, ◌≤◌, ◌⊎◌, slice_get, Some}
 use Rattle.image_check.specs.Image.{Image, own_of}
 use Rattle.world_view.specs.Relations.{largest_step}

@@ -9,7 +9,7 @@ pub record Passes (h g : ℕ) (here there : Harts) : Type 0 where
   pub more : switches_of h there < switches_of h here
   pub fewer : switches_of g here < switches_of g there
 
--- they don't, but for the boot of g, with which no slot of it ends
+-- neither passes the other, from the first switch of g on with which a slot of it ends: its boot is none
 pub record TakeTurns (g h : ℕ) (here there : Harts) : Type 0 where
   pub behind : Passes h g here there → switches_of g there ≤ 1
   pub ahead : Passes g h here there → switches_of g here ≤ 1
