@@ -40,9 +40,10 @@ from test_html import EXAMPLES, HOSTILE, LINES, hostile_report, write_page  # no
 
 from tp_sdk.images import read_image  # noqa: E402
 from tp_sdk.keys import LIMITS, VERSION  # noqa: E402
+from tp_sdk.mail import Delivery, Mail, boxes_of, deliveries, longest_event  # noqa: E402
 from tp_sdk.replay import image_text  # noqa: E402
 from tp_sdk.report import parse_report  # noqa: E402
-from tp_sdk.schedule import entries_of, harts_in, slots_of, slots_of_each  # noqa: E402
+from tp_sdk.schedule import entries_of, hart_for, harts_in, slots_of, slots_of_each  # noqa: E402
 from tp_sdk.words import SLOTS  # noqa: E402
 
 PICTURES = Path(__file__).parent / "out"
@@ -129,6 +130,7 @@ def pages(tmp_path_factory: pytest.TempPathFactory) -> Iterator[dict[str, Path]]
     flush, beside = LINES / "flush" / "secret-3.report", LINES / "run" / "secret-5.report"
     unpadded = next((EXAMPLES / "channels").glob("*/pad/secret-0.report"))
     big, empty, far = big_run(folder), folder / "empty.report", folder / "far.report"
+    store, told = EXAMPLES / "key-store.report", told_between_harts(folder)
     empty.write_text("end\n")
     far.write_text("".join(f"switch {it} used 1 pad {10**30} count 2\n" for it in range(2)) + "end\n")
     with pytest.MonkeyPatch.context() as patch:
@@ -146,6 +148,8 @@ def pages(tmp_path_factory: pytest.TempPathFactory) -> Iterator[dict[str, Path]]
                 ("empty", empty, ()),
                 ("far", far, ()),
                 ("big", big, ("--image", big.with_suffix(".toml"))),
+                ("store", store, ("--image", store.with_suffix(".toml"))),
+                ("told", told, ("--image", told.with_suffix(".toml"))),
             )
         }
 
@@ -156,6 +160,17 @@ def view(driver: Chrome, pages: dict[str, Path]) -> Iterator[View]:
     faults_in_console(driver)
     yield View(driver, pages)
     assert faults_in_console(driver) == []
+
+
+def told_between_harts(folder: Path) -> Path:
+    """A report of some slots of two harts, and beside it its image: boxes one way and the other, and turns of other
+    lengths."""
+    image, report = ((EXAMPLES / f"two-harts{it}").read_text() for it in (".toml", ".report"))
+    before, _, after = image.rpartition("length = 10000")
+    mail = "".join(f"\n[[mail]]\nfrom = {one}\nto = {other}\n" for one, other in ((0, 1), (1, 0)))
+    (folder / "told.toml").write_text(f"{before}length = 7000{after}{mail}")
+    (folder / "told.report").write_text(re.sub(r"count \d+$", "count 12", report, flags=re.MULTILINE))
+    return folder / "told.report"
 
 
 def big_run(folder: Path) -> Path:
@@ -228,6 +243,54 @@ def test_the_slots_are_those_of_the_schedule(name: str, view: View) -> None:
     assert [row[6:] for row in rows] == pads
     drawn = view.script("return document.querySelectorAll('#timeline rect.slot').length")
     assert drawn == len(due)
+
+
+def told_of_boxes(image: dict[str, Any], count: int) -> dict[tuple[int, int], list[str]]:
+    """What is told of boxes of each slot, by its hart and its place there, among so many slots of each."""
+    entries, boxes = entries_of(image, ""), boxes_of(image, "")
+    names, is_of_many = [it["name"] for it in image["domain"]], harts_in(entries) > 1
+    by: dict[tuple[int, int], list[str]] = {}
+    to: dict[tuple[int, int, int], str] = {}
+    for it in deliveries(entries, Mail(boxes, longest_event(image, "")), count):
+        harts = [hart_for(entries, domain) for domain in (it.box.sender, it.box.receiver)]
+        left, came = (
+            f"slot {place + 1}{f' of hart {hart}' if is_of_many else ''}, of {names[domain]}"
+            for place, hart, domain in zip((it.left, it.came), harts, (it.box.sender, it.box.receiver))
+        )
+        ends = [f", or in a slot of {of} earlier or later" if it.is_open else "" for of in ("that", "its own")]
+        words = f"What it put into box {it.box.number}, if anything, came in in {came}{ends[0]}."
+        by.setdefault((harts[0], it.left), []).append(words)
+        # (the last words before a slot are what comes in)
+        to[harts[1], it.came, it.box.number] = f"In it came in what {left}, put into box {it.box.number}{ends[1]}."
+    for hart, place, box in sorted(to):
+        by.setdefault((hart, place), []).append(to[hart, place, box])
+    return by
+
+
+@pytest.mark.parametrize("name", ["store", "told"])
+def test_words_of_boxes_are_told_where_they_came_in(name: str, view: View, tmp_path: Path) -> None:
+    report = EXAMPLES / "key-store.report" if name == "store" else told_between_harts(tmp_path)
+    image, read = read_image(report.with_suffix(".toml"), None), parse_report(report.read_text(), "")
+    entries, boxes = entries_of(image, ""), boxes_of(image, "")
+    harts, count = harts_in(entries), slots_of_each(entries, read)
+    due = told_of_boxes(image, count)
+    view.open(name)
+    view.find("timeline").send_keys("-", "-", "-", "-")
+    for hart in range(harts):
+        view.find("timeline").send_keys(Keys.HOME)
+        for number in range(count):
+            view.rest()
+            own = view.text("slot-told")
+            assert own.startswith(f"Slot {number + 1} of {count}" + (f" of hart {hart}" if harts > 1 else ""))
+            assert re.findall(r"(?:What it|In it) .*?\.(?= |$)", own) == due.get((hart, number), [])
+            view.find("timeline").send_keys(Keys.ARROW_RIGHT)
+        view.find("timeline").send_keys(Keys.ARROW_DOWN)
+    told = list(deliveries(entries, Mail(boxes, longest_event(image, "")), count))
+    for kind, arrows in (("mail", told), ("mail.open", [it for it in told if it.is_open])):
+        drawn = view.script(f"return document.querySelectorAll('#timeline line.{kind}').length")
+        assert drawn == len(arrows) and bool(arrows) == (kind == "mail" or harts > 1)
+    legend = view.find("time-legend").text
+    assert "words of a box" in legend and ("a slot earlier or later" in legend) == (harts > 1)
 
 
 def test_with_pad_off_nothing_is_waited(view: View) -> None:

@@ -23,6 +23,11 @@ from tp_sdk.schedule import Entry, domain_names, entries_of, hart_for, harts_in,
 from tp_sdk.words import SLOTS
 
 
+# What an arrow of a picture is.
+TOLD = "words of a box, if any were put in: where they came in"
+TOLD_IF_OPEN = "the same, or a slot earlier or later: by who passed an end"
+
+
 @dataclass(frozen=True)
 class Box:
     """A box, by its number and its domains' numbers."""

@@ -4,12 +4,14 @@ from __future__ import annotations
 
 from collections import Counter
 from collections.abc import Sequence
+from dataclasses import asdict
 from itertools import groupby
 from pathlib import Path
 from typing import Any
 
 from tp_sdk.faults import Fault
 from tp_sdk.keys import HART
+from tp_sdk.mail import TOLD, TOLD_IF_OPEN, are_between_harts, boxes_in_use, boxes_of, longest_event
 from tp_sdk.measurements import MEASURES, Measurements, SlotEnded, by_pads, by_schedule, measurements_of
 from tp_sdk.memory import Frame, Memory, Use, memory_of
 from tp_sdk.refusals import Image
@@ -36,7 +38,7 @@ def facts_of(telling: Telling, image: Image | None, other: Report | None = None)
         "head": telling.head(),
         "run": telling.fields(),
         "switch_sentences": telling.switches(),
-        "schedule": _schedule(report, entries),
+        "schedule": _schedule(report, entries) | {"mail": _mail(image, entries, report, file)},
         "memory": None if memory is None else _memory(memory, len(report.sections)),
         "measures": MEASURES,
         "measurements": [_measured(*it) for it in zip(report.sections, _slot_ended(report, entries))],
@@ -70,6 +72,22 @@ def _schedule(report: Report, entries: Sequence[Entry] | None) -> Facts:
     for row, switch in zip(rows, report.switches):
         row["used"] = switch.used
     return {"entries": rows, "harts": harts, "slots": slots, "why_not": why_not}
+
+
+def _mail(image: Image | None, entries: Sequence[Entry] | None, report: Report, file: str) -> Facts | None:
+    """The boxes by which words may have come, where it is known when slots began; how long an event may take, and
+    what an arrow is."""
+    if image is None or entries is None or report.off == "pad":
+        return None
+    boxes = boxes_in_use(image, boxes_of(image, file))
+    if not boxes:
+        return None
+    return {
+        "boxes": [asdict(it) for it in boxes],
+        "longest": longest_event(image, file),
+        "told": TOLD,
+        "told_if_open": TOLD_IF_OPEN if are_between_harts(entries, boxes) else None,
+    }
 
 
 # ---- memory

@@ -18,7 +18,7 @@ _STYLES = ("look.css", "run.css")
 _BEFORE_ALL = "theme.js"  # runs before anything is drawn
 # In this order each module names none but those before it.
 MODULES = (
-    "dom.js", "toggle.js", "words.js", "scale.js", "lane.js", "slot_words.js", "slots.js", "steer.js",
+    "dom.js", "toggle.js", "words.js", "scale.js", "lane.js", "mail.js", "slot_words.js", "slots.js", "steer.js",
     "switches.js", "memory.js", "measured.js", "domains.js", "main.js",
 )  # fmt: skip
 _IMPORT = re.compile(r"^import (\{.*\}) from '\./(.*)';$", re.MULTILINE)

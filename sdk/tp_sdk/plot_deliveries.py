@@ -6,7 +6,7 @@ from collections.abc import Mapping, Sequence
 from dataclasses import dataclass
 from typing import TYPE_CHECKING
 
-from tp_sdk.mail import Mail, deliveries
+from tp_sdk.mail import TOLD, TOLD_IF_OPEN, Mail, deliveries
 from tp_sdk.plots import ink
 from tp_sdk.replay import Replay
 from tp_sdk.schedule import Entry, hart_for, harts_in, slots_of
@@ -75,10 +75,7 @@ def _arrow(start: tuple[float, float], end: tuple[float, float], style: str) -> 
 
 def legend_of(arrows: Sequence[Arrow]) -> list[Line2D]:
     """What an arrow is."""
-    told = {
-        _KNOWN: "words of a box, if any were put in: where they came in",
-        _OPEN: "the same, or a slot earlier or later: by who passed an end",
-    }
+    told = {_KNOWN: TOLD, _OPEN: TOLD_IF_OPEN}
     drawn = {_OPEN if it.is_open else _KNOWN for it in arrows}
     return [
         Line2D([], [], color=ink(), linewidth=_WIDTH, linestyle=style, marker=">", markersize=3, label=words)

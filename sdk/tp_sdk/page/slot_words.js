@@ -22,6 +22,18 @@ export function slotInWords({ harts, slots, why_not: whyNot }, { number, entry, 
     + `at most, ${waited}.`;
 }
 
+// Where words came in that a slot put into boxes, and of which slots those are that came in in it.
+export function mailInWords({ harts }, by, to) {
+  const slotOf = (lane, { number }) => `slot ${grouped(number + 1)}${harts > 1 ? ` of hart ${lane.hart}` : ''}`;
+  const open = ({ isOpen }, other) => (isOpen ? `, or in a slot of ${other} earlier or later` : '');
+  return [
+    ...by.map((it) => `What it put into box ${it.box.number}, if anything, came in in ${slotOf(it.box.to, it.came)}, `
+      + `of ${nameOf(it.box.receiver)}${open(it, 'that')}.`),
+    ...to.map((it) => `In it came in what ${slotOf(it.box.from, it.left)}, of ${nameOf(it.box.sender)}, put into `
+      + `box ${it.box.number}${open(it, 'its own')}.`),
+  ];
+}
+
 // Which slots are drawn of each hart, and how many are at most.
 export function drawnInWords({ harts, slots }, shown, most) {
   const from = (some) => `${grouped(some[0].number + 1)} to ${grouped(some.at(-1).number + 1)}`;
@@ -37,11 +49,13 @@ export function whyInWords({ slots, why_not: whyNot }) {
 }
 
 // What stands for what, as `legendOf` takes it.
-export function legendRows({ why_not: whyNot }) {
+export function legendRows({ why_not: whyNot, mail }) {
   return [
     whyNot ? ['unknown', 'a slot, of a length that is not known'] : ['slot of-0', 'a slot, with its number'],
     ['pad', isPadded ? 'pad: waited' : 'pad: not waited'],
     ['used', 'pad: the most that a switch of the entry used'],
     ...(whyNot ? [] : [['clock', 'a clock that the domain read, of its first 256 readings']]),
+    ...(mail ? [['mail', mail.told]] : []),
+    ...(mail?.told_if_open ? [['mail open', mail.told_if_open]] : []),
   ];
 }

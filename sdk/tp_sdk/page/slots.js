@@ -3,8 +3,9 @@
 
 import { element, find, svg } from './dom.js';
 import { Lane } from './lane.js';
+import { Mail } from './mail.js';
 import { ticks } from './scale.js';
-import { drawnInWords, HEADS, legendRows, rowOf, slotInWords, whyInWords } from './slot_words.js';
+import { drawnInWords, HEADS, legendRows, mailInWords, rowOf, slotInWords, whyInWords } from './slot_words.js';
 import { classOf, facts, grouped, legendOf, nameOf, run, short, table, widthOf } from './words.js';
 
 const MOST_DRAWN = 300; // slots of all lanes
@@ -25,6 +26,7 @@ export class Timeline {
       new Lane(hart, schedule.entries, schedule.slots, nominal)));
     this.most = Math.max(1, Math.floor(MOST_DRAWN / this.lanes.length));
     this.end = Math.max(...this.lanes.map((lane) => lane.end));
+    this.mail = schedule.mail && new Mail(schedule.mail, this.lanes);
     this.chosen = { hart: 0, number: 0 };
     this.box = find('timeline');
     const isNarrow = widthOf(this.box) < NARROW;
@@ -114,7 +116,7 @@ export class Timeline {
     }
     const height = top - BETWEEN + 2;
     const inner = svg('svg', { x: this.left, y: 0, width: this.width - this.left, height });
-    inner.append(...this.#axis(height), ...this.lanes.flatMap((lane) => this.#lane(lane)));
+    inner.append(...this.#axis(height), ...this.lanes.flatMap((lane) => this.#lane(lane)), ...this.#told());
     const picture = svg('svg', { viewBox: `0 0 ${this.width} ${height}`, 'aria-hidden': 'true', focusable: 'false' });
     picture.append(...this.lanes.flatMap((lane) => this.#names(lane)), inner);
     this.box.replaceChildren(picture);
@@ -192,15 +194,33 @@ export class Timeline {
       svg('line', { class: 'clock', x1: this.#x(it), x2: this.#x(it), y1: y + ROW - 10, y2: y + ROW - 6 })));
   }
 
+  // Arrows from the ends of slots to those in which their words came in.
+  #told() {
+    const mid = (lane, domain) => lane.top + (lane.domains.indexOf(domain) + 0.5) * ROW;
+    const arrow = ({ box: { from, to, sender, receiver }, left, came, isOpen }) => svg('line', {
+      class: isOpen ? 'mail open' : 'mail', 'marker-end': 'url(#mail-head)',
+      x1: this.#x(left.end), y1: mid(from, sender), x2: this.#x(came.start), y2: mid(to, receiver),
+    });
+    if (!this.mail) return [];
+    const size = { viewBox: '0 0 6 6', refX: 6, refY: 3, markerWidth: 6, markerHeight: 6, orient: 'auto' };
+    const head = svg('marker', { id: 'mail-head', ...size }, svg('path', { class: 'mail', d: 'M0 0L6 3L0 6' }));
+    return [svg('defs', {}, head), ...this.mail.among(this.#shown()).map(arrow)];
+  }
+
+  // The slots of each lane that are in view.
+  #shown() {
+    return this.lanes.map((lane) => lane.between(this.from, this.to, this.most));
+  }
+
   // ---- in words
 
   #tell() {
-    const { slot, chosen: { hart, number }, schedule, most } = this;
-    tell('slot-told', slotInWords(schedule, slot, hart));
+    const { slot, chosen: { hart, number }, schedule, mail, most } = this;
+    const told = mail ? mailInWords(schedule, mail.by(hart, slot), mail.to(hart, slot)) : [];
+    tell('slot-told', [slotInWords(schedule, slot, hart), ...told].join(' '));
     find('slot').value = number + 1;
     find('hart').value = hart;
-    const shown = this.lanes.map((lane) => lane.between(this.from, this.to, most));
-    tell('time-drawn', drawnInWords(schedule, shown, most));
+    tell('time-drawn', drawnInWords(schedule, this.#shown(), most));
   }
 
   #tabulate() {
