@@ -40,7 +40,7 @@ from test_html import EXAMPLES, HOSTILE, LINES, hostile_report, write_page  # no
 
 from tp_sdk.images import read_image  # noqa: E402
 from tp_sdk.keys import LIMITS, VERSION  # noqa: E402
-from tp_sdk.mail import Delivery, Mail, boxes_of, deliveries, longest_event  # noqa: E402
+from tp_sdk.mail import Mail, boxes_of, deliveries, longest_event  # noqa: E402
 from tp_sdk.replay import image_text  # noqa: E402
 from tp_sdk.report import parse_report  # noqa: E402
 from tp_sdk.schedule import entries_of, hart_for, harts_in, slots_of, slots_of_each  # noqa: E402

@@ -2,6 +2,7 @@
 
 from __future__ import annotations
 
+import re
 import tomllib
 from pathlib import Path
 
@@ -11,6 +12,7 @@ from conftest import REPOSITORY, run_tool
 from tp_sdk.faults import Fault
 from tp_sdk.program import Program
 from tp_sdk.report import parse_report
+from tp_sdk.schedule import domain_names
 from tp_sdk.verify import Held
 
 EXAMPLES = REPOSITORY / "examples"
@@ -73,3 +75,49 @@ def test_a_report_without_a_guard() -> None:
     report = parse_report("unprotected flush\n" + REPORT.read_text(), "report")
     with pytest.raises(Fault, match="without its guard flush"):
         Held.read(REDACTED, "spy").slots_of(report)
+
+
+# ---- a domain to which boxes lead
+
+STORE = EXAMPLES / "key-store.toml"
+BESIDE = f"friend: the section of 16 slots is the same beside stranger and store, as {STORE} has them\n"
+
+
+def test_what_its_senders_tell_it_is_of_the_section(program: Program, tmp_path: Path) -> None:
+    report = STORE.with_suffix(".report")
+    ended = run_tool("tp-verify", STORE, report, "--domain", "friend")
+    assert (ended.returncode, ended.stdout) == (0, BESIDE)
+    for name in ("stranger", "spy"):
+        ended = run_tool("tp-verify", STORE, report, "--domain", name)
+        assert (ended.returncode, ended.stdout) == (0, f"{name}: the section of 16 slots is the same\n")
+    # what the tenant holds has nothing of these
+    redacted = tmp_path / "friend.toml"
+    redacted.write_text(program.run(["redact", "--domain", "0"], STORE.read_text()).text)
+    ended = run_tool("tp-verify", redacted, report, "--domain", "friend")
+    assert ended.returncode == 1
+    assert ended.stdout.endswith(f" beside e1 and e2, as {redacted} has them\n")
+
+
+def test_a_section_of_one_that_was_told_nothing(program: Program, tmp_path: Path) -> None:
+    section = tmp_path / "friend.section"
+    words = (STORE, section, "--domain", "friend", "--slots", "16")
+    section.write_text(program.run(["alone", "--domain", "0", "--slots", "16"], STORE.read_text()).text)
+    alone = "friend: the section of 16 slots is the same alone, with no word coming in\n"
+    ended = run_tool("tp-verify", *words)
+    assert (ended.returncode, ended.stdout) == (0, alone)
+    own = parse_report(STORE.with_suffix(".report").read_text(), "").section("friend")
+    section.write_text(f"domain 0 friend\n{own.text}")
+    ended = run_tool("tp-verify", *words)
+    assert (ended.returncode, ended.stdout) == (0, BESIDE)
+
+
+def test_where_words_may_come_earlier_it_is_told(program: Program, tmp_path: Path) -> None:
+    image, report = tmp_path / "told.toml", tmp_path / "told.report"
+    image.write_text((EXAMPLES / "two-harts.toml").read_text() + "\n[[mail]]\nfrom = 0\nto = 1\n")
+    text = program.run(["run", "--slots", "2"], image.read_text()).text
+    receiver = domain_names(tomllib.loads(image.read_text()))[1]
+    report.write_text(text)
+    assert run_tool("tp-verify", image, report, "--domain", receiver).returncode == 0
+    report.write_text(re.sub(r"^retired \d+$", "retired 1", text, flags=re.MULTILINE))
+    ended = run_tool("tp-verify", image, report, "--domain", receiver)
+    assert ended.returncode == 1 and "; which words come in may go by who passes a slot's end" in ended.stdout

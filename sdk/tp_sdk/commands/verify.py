@@ -2,13 +2,14 @@
 
 from __future__ import annotations
 
-from argparse import ArgumentParser, RawDescriptionHelpFormatter
+from argparse import ArgumentParser, Namespace, RawDescriptionHelpFormatter
 from pathlib import Path
 
+from tp_sdk.calls import in_words
 from tp_sdk.faults import EXIT_CODES, INPUT_AT_FAULT, read_text
 from tp_sdk.program import Program
 from tp_sdk.progress import progress
-from tp_sdk.report import parse_report
+from tp_sdk.report import Report, parse_report
 from tp_sdk.running import with_end
 from tp_sdk.verify import Held
 from tp_sdk.words import slots_from
@@ -23,7 +24,14 @@ The second takes the section alone, as `tp alone` writes it, and how many slots 
 
 The image need not be the one that was run: it must say the same to all domains, and the same of
 this one. What the others have in it makes no difference. Of two sections that differ, the first
-line that does is told, and the exit code is 1."""
+line that does is told, and the exit code is 1.
+
+Where boxes lead to the domain, it sees the words that come in, too. So then it is run beside the
+others, and of those that may tell it words, themselves or by way of others, the image must say
+what the one that was run does, too: whose that is, is told. (A section alone may also be that
+without any word, as `tp alone` writes it.)"""
+
+_OPEN = "; which words come in may go by who passes a slot's end, as tp-explain tells of the image"
 
 
 def main(words: list[str]) -> int:
@@ -46,9 +54,20 @@ def main(words: list[str]) -> int:
     held = Held.read(asked.image, asked.domain)
     slots = held.slots_of(report) if asked.slots is None else asked.slots
     with progress("tp-verify") as shown:
-        difference = held.difference(Program.find(shown), report, slots)
+        return _told(asked, held, report, slots, Program.find(shown))
+
+
+def _told(asked: Namespace, held: Held, report: Report, slots: int, program: Program) -> int:
+    """Tells what comes of it, and gives the exit code."""
+    senders = held.senders()
+    beside = f" beside {in_words(senders, 'and')}, as {held.file} has them" if senders else ""
+    same = f"{asked.domain}: the section of {slots} slots is the same"
+    difference = held.difference(program, report, slots, is_alone=not senders)
     if difference is None:
-        print(f"{asked.domain}: the section of {slots} slots is the same")
+        print(f"{same}{beside}")
         return 0
-    print(f"{asked.report}:{difference.line}: {difference}")
+    if senders and asked.slots is not None and held.difference(program, report, slots) is None:
+        print(f"{same} alone, with no word coming in")
+        return 0
+    print(f"{asked.report}:{difference.line}: {difference}{beside}{_OPEN if held.is_open() else ''}")
     return INPUT_AT_FAULT
