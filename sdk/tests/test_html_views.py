@@ -40,7 +40,7 @@ from test_html import EXAMPLES, HOSTILE, LINES, hostile_report, write_page  # no
 
 from tp_sdk.images import read_image  # noqa: E402
 from tp_sdk.keys import LIMITS, VERSION  # noqa: E402
-from tp_sdk.mail import Mail, boxes_of, deliveries, longest_event  # noqa: E402
+from tp_sdk.mail import Mail, boxes_of, deliveries, longest_events  # noqa: E402
 from tp_sdk.replay import image_text  # noqa: E402
 from tp_sdk.report import parse_report  # noqa: E402
 from tp_sdk.schedule import entries_of, hart_for, harts_in, slots_of, slots_of_each  # noqa: E402
@@ -251,7 +251,7 @@ def told_of_boxes(image: dict[str, Any], count: int) -> dict[tuple[int, int], li
     names, is_of_many = [it["name"] for it in image["domain"]], harts_in(entries) > 1
     by: dict[tuple[int, int], list[str]] = {}
     to: dict[tuple[int, int, int], str] = {}
-    for it in deliveries(entries, Mail(boxes, longest_event(image, "")), count):
+    for it in deliveries(entries, Mail(boxes, longest_events(image, "")), count):
         harts = [hart_for(entries, domain) for domain in (it.box.sender, it.box.receiver)]
         left, came = (
             f"slot {place + 1}{f' of hart {hart}' if is_of_many else ''}, of {names[domain]}"
@@ -285,7 +285,7 @@ def test_words_of_boxes_are_told_where_they_came_in(name: str, view: View, tmp_p
             assert re.findall(r"(?:What it|In it) .*?\.(?= |$)", own) == due.get((hart, number), [])
             view.find("timeline").send_keys(Keys.ARROW_RIGHT)
         view.find("timeline").send_keys(Keys.ARROW_DOWN)
-    told = list(deliveries(entries, Mail(boxes, longest_event(image, "")), count))
+    told = list(deliveries(entries, Mail(boxes, longest_events(image, "")), count))
     for kind, arrows in (("mail", told), ("mail.open", [it for it in told if it.is_open])):
         drawn = view.script(f"return document.querySelectorAll('#timeline line.{kind}').length")
         assert drawn == len(arrows) and bool(arrows) == (kind == "mail" or harts > 1)

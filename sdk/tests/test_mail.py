@@ -30,7 +30,7 @@ from tp_sdk.mail import (
     boxes_of,
     close_switches,
     deliveries,
-    longest_event,
+    longest_events,
 )
 from tp_sdk.program import Program
 from tp_sdk.refusals import Refusal
@@ -253,18 +253,18 @@ BOXES = [Box(0, 0, 1), Box(1, 0, 2), Box(2, 1, 0), Box(3, 2, 0), Box(4, 1, 2), B
 
 
 def test_where_the_ends_lie_apart_the_schedule_tells() -> None:
-    close = close_switches(ENTRIES, BOXES, 4583)
+    close = close_switches(ENTRIES, BOXES, [4583] * 3)
     assert [(it.box.number, it.sends, it.receives, it.slots, it.ends, it.apart) for it in close] == [
         (0, 0, 1, (0, 1), (30000, 30000), 0),
         (3, 2, 0, (1, 0), (30000, 30000), 0),
     ]
     # blue's ends are 13,500 after red's, and 16,500 before the next one
-    assert len(close_switches(ENTRIES, BOXES, 13500)) == 2
-    assert [it.box.number for it in close_switches(ENTRIES, BOXES, 13501)] == [0, 1, 2, 3]
+    assert len(close_switches(ENTRIES, BOXES, [13500] * 3)) == 2
+    assert [it.box.number for it in close_switches(ENTRIES, BOXES, [13501] * 3)] == [0, 1, 2, 3]
     # the last slot of a run has no switch after it
-    assert close_switches(ENTRIES, BOXES, 4583, slots=1) == []
-    assert [it.box.number for it in close_switches(ENTRIES, BOXES, 4583, slots=2)] == []
-    assert [it.box.number for it in close_switches(ENTRIES, BOXES, 4583, slots=3)] == [0, 3]
+    assert close_switches(ENTRIES, BOXES, [4583] * 3, slots=1) == []
+    assert [it.box.number for it in close_switches(ENTRIES, BOXES, [4583] * 3, slots=2)] == []
+    assert [it.box.number for it in close_switches(ENTRIES, BOXES, [4583] * 3, slots=3)] == [0, 3]
 
 
 def test_the_first_close_ends_are_those_that_are_found_one_by_one() -> None:
@@ -273,17 +273,23 @@ def test_the_first_close_ends_are_those_that_are_found_one_by_one() -> None:
         entries = [
             Entry(domain, draw.randint(1000, 4000), draw.randint(0, 3000), domain % 2) for domain in range(4)
         ]
-        box, longest = Box(0, 0, 1), draw.randint(1, 400)
+        box, longest = Box(0, 0, 1), [draw.randint(1, 400) for _ in range(4)]
         found = {(it.sends, it.receives): it.ends for it in close_switches(entries, [box], longest, 40)}
         one, other = (list(slots_of(entries, 40, hart)) for hart in (0, 1))
         ends = [slot.end for slot in one[:-1] if slot.domain == 0]
-        begins = [before.end for before, slot in zip(other, other[1:]) if slot.domain == 1]
-        close = [(end, begin) for end in ends for begin in begins if abs(end - begin) < longest]
+        befores = [before for before, slot in zip(other, other[1:]) if slot.domain == 1]
+        close = [
+            (end, it.end)
+            for end in ends
+            for it in befores
+            # (the domain of the slot that ends first passes its end)
+            if abs(end - it.end) < longest[0 if end <= it.end else it.domain]
+        ]
         assert found == ({(0, 1): close[0]} if close else {})
 
 
 def test_deliveries_lead_to_the_next_slot_of_the_receiver() -> None:
-    told = [(it.box.number, it.left, it.came, it.is_open) for it in deliveries(ENTRIES, Mail(BOXES, 4583), 4)]
+    told = [(it.box.number, it.left, it.came, it.is_open) for it in deliveries(ENTRIES, Mail(BOXES, [4583] * 3), 4)]
     assert told == [
         # of two ends in one cycle that of the lesser hart comes first
         (0, 0, 2, True),
@@ -301,12 +307,12 @@ def test_deliveries_lead_to_the_next_slot_of_the_receiver() -> None:
 
 def test_a_longest_event_is_an_instruction_and_its_call() -> None:
     image = tomllib.loads(MAIL)
-    assert longest_event(image, "image") == 306 + 4277
+    assert longest_events(image, "image") == [306 + 4277] * 2
     image |= {"version": 2}
     image["domain"][0]["calls"] = [0, 20]
-    assert longest_event(image, "image") == 306 + 4277
+    assert longest_events(image, "image") == [306 + 501, 306 + 4277]
     image["domain"][1]["calls"] = [0, 20]
-    assert longest_event(image, "image") == 306 + 501
+    assert longest_events(image, "image") == [306 + 501] * 2
     # (who may not SEND tells nothing)
     assert boxes_in_use(image, boxes_of(image, "image")) == []
 
@@ -323,8 +329,8 @@ def test_boxes_that_are_none(mail: Any) -> None:
 ON_TWO = MAIL.replace("domain = 1 ", "hart = 1\ndomain = 1 ")
 NAMED = (
     "box 0 (red to blue): on hart 0 slot 0, of entry 0 (red), ends at 16,150, and on hart 1 slot 0, before "
-    "entry 1 (blue), at 16,150: they lie apart by 0, and an event may take 4,583, so which words come in goes "
-    "by who passes an end"
+    "entry 1 (blue), at 16,150: they lie apart by 0, and an event of red may take 4,583, so which words come in "
+    "goes by who passes an end"
 )
 
 
@@ -387,7 +393,8 @@ def test_tp_explain_names_them(tmp_path: Path) -> None:
     assert run_tool("tp-explain", file, given=bound).stdout.splitlines()[-1] == f"  {NAMED}"
     (told,) = json.loads(run_tool("tp-explain", file, "--json", given=bound).stdout)["open_orders"]
     assert told == {
-        **{"box": 0, "sends": 0, "receives": 1, "slots": [0, 0], "ends": [16150, 16150], "longest": 4583},
+        **{"box": 0, "sends": 0, "receives": 1, "slots": [0, 0], "ends": [16150, 16150]},
+        **{"passes": "red", "longest": 4583},
         "sentence": NAMED,
     }
 
@@ -410,7 +417,7 @@ def test_arrows_are_of_slots_in_which_calls_were_made() -> None:
     from tp_sdk.plot_deliveries import Arrow, arrows_of
     from tp_sdk.replay import Did, Replay
 
-    entries, mail = [Entry(0, 10000, 6150), Entry(1, 10000, 6150)], Mail([Box(0, 0, 1)], 4583)
+    entries, mail = [Entry(0, 10000, 6150), Entry(1, 10000, 6150)], Mail([Box(0, 0, 1)], [4583] * 2)
     first, second = Arrow((0, 1), (0, 1), (16150, 22300), False), Arrow((0, 1), (2, 3), (48450, 54600), False)
     assert arrows_of(entries, mail, None, 4) == [first, second]
     assert arrows_of(entries, Mail(), None, 4) == []

@@ -22,6 +22,15 @@ class KnownEntry:
     hart: int = 0
 
 
+@dataclass(frozen=True)
+class KnownBox:
+    """A mailbox, by the names of the domains at its ends."""
+
+    number: int
+    sender: str
+    receiver: str
+
+
 @dataclass
 class Known:
     """An image, or nothing, as `file` is none; `there` has the calls that there are."""
@@ -32,6 +41,7 @@ class Known:
     entries: list[KnownEntry] = field(default_factory=list)
     calls: list[frozenset[int]] = field(default_factory=list)
     there: frozenset[int] = EVERY_CALL
+    boxes: list[KnownBox] = field(default_factory=list)
 
     @property
     def harts(self) -> int:
@@ -41,6 +51,10 @@ class Known:
     def calls_of(self, domain: int) -> frozenset[int]:
         """The calls that a domain may make, as far as is known."""
         return self.calls[domain] if domain < len(self.calls) else self.there
+
+    def boxes_of(self, name: str) -> list[KnownBox]:
+        """The boxes of which a domain is at an end."""
+        return [it for it in self.boxes if name in (it.sender, it.receiver)]
 
     def program(self, domain: int) -> Loaded | None:
         """The program of a domain."""
@@ -65,7 +79,11 @@ def known_of(description: Description, programs: list[Loaded]) -> Known:
     ]
     there = calls_where(bool(description.boxes))
     calls = [there if it.calls is None else there.intersection(it.calls) for it in description.domains]
-    return Known(description.file, names, programs, entries, calls, there)
+    boxes = [
+        KnownBox(number, *(names[end] if isinstance(end, int) else end for _, end in it.ends))
+        for number, it in enumerate(description.boxes)
+    ]
+    return Known(description.file, names, programs, entries, calls, there, boxes)
 
 
 def known_by(report: Report, file: Path) -> Known:

@@ -2,8 +2,8 @@
 
 The words that a slot of the sender put into a box go off in the switch at that slot's end, and come in in the
 next switch that begins a slot of the receiver; that switch comes at the end of the slot before. On several
-harts the clocks order these switches. A slot's last event may pass its end, so where two ends lie apart by
-less than the longest event, the schedule alone doesn't tell which switch comes first."""
+harts the clocks order these switches. A slot's last event may pass its end, so where another one comes later by
+less than the longest event of the domain of the first, the schedule alone doesn't tell which switch comes first."""
 
 from __future__ import annotations
 
@@ -39,10 +39,10 @@ class Box:
 
 @dataclass(frozen=True)
 class Mail:
-    """Boxes, and how many cycles an event may take."""
+    """Boxes, and how many cycles an event of each domain may take."""
 
     boxes: Sequence[Box] = ()
-    longest: int = 0
+    longest: Sequence[int] = ()
 
 
 def boxes_of(image: Image, file: str) -> list[Box]:
@@ -90,7 +90,7 @@ def deliveries(entries: Sequence[Entry], mail: Mail, count: int) -> Iterator[Del
     for box in mail.boxes:
         one, other = (hart_for(entries, domain) for domain in (box.sender, box.receiver))
         begins = [
-            (before.end, other, place)
+            (before.end, other, place, before.domain)
             for place, (before, slot) in enumerate(pairwise(slots[other]), 1)
             if slot.domain == box.receiver
         ]
@@ -98,7 +98,10 @@ def deliveries(entries: Sequence[Entry], mail: Mail, count: int) -> Iterator[Del
             after = bisect_left(begins, (slot.end, one, 0))
             if slot.domain == box.sender and after < len(begins):
                 near = begins[max(after - 1, 0) : after + 1]
-                is_open = one != other and any(abs(end - slot.end) < mail.longest for end, *_ in near)
+                own = slot.end, slot.domain
+                is_open = one != other and any(
+                    _is_open(own, (end, domain), mail.longest) for end, _, _, domain in near
+                )
                 yield Delivery(box, left, begins[after][2], is_open)
 
 
@@ -108,13 +111,15 @@ def deliveries(entries: Sequence[Entry], mail: Mail, count: int) -> Iterator[Del
 @dataclass(frozen=True)
 class Close:
     """A box, an entry of its sender, and one of its receiver before whose slot another one ends: at some time
-    these ends are as close as this on two harts, for the first time after these slots, from 0."""
+    these ends are as close as this on two harts, for the first time after these slots, from 0; and the domain that
+    may pass the first of these ends beyond the other."""
 
     box: Box
     sends: int
     receives: int
     slots: tuple[int, int]
     ends: tuple[int, int]
+    passes: int
 
     @property
     def apart(self) -> int:
@@ -122,20 +127,27 @@ class Close:
         return abs(self.ends[0] - self.ends[1])
 
 
-def longest_event(image: Image, file: str) -> int:
-    """The most cycles that an event takes: an instruction, and the kernel call that it makes."""
+def longest_events(image: Image, file: str) -> list[int]:
+    """The most cycles that an event of each domain takes: an instruction, and the kernel call that it makes."""
     try:
-        parts = [parts_of(image, calls_of(image, it["domain"])) for it in image["schedule"]]
-        return max(it["instruction"] + it[OPERATION] for it in parts)
+        parts = [parts_of(image, calls_of(image, domain)) for domain in range(len(domain_names(image)))]
+        return [it["instruction"] + it[OPERATION] for it in parts]
     except (KeyError, IndexError, TypeError, ZeroDivisionError):
         raise Fault(f"{file}: no bound can be told of it: does 'tp check' accept it?") from None
 
 
+def _is_open(one: tuple[int, int], other: tuple[int, int], longest: Sequence[int]) -> bool:
+    """Whether the switches at the ends of two slots, each with its domain, may come in either order: the domain of the
+    first may pass its end beyond the second."""
+    (end, domain), (its, whose) = one, other
+    return its - end < longest[domain] and end - its < longest[whose]
+
+
 def close_switches(
-    entries: Sequence[Entry], boxes: Sequence[Box], longest: int, slots: int = SLOTS.high
+    entries: Sequence[Entry], boxes: Sequence[Box], longest: Sequence[int], slots: int = SLOTS.high
 ) -> list[Close]:
-    """For each box between two harts, and each pair of entries, the first two ends that lie apart by less than
-    the longest event, within so many slots of each hart."""
+    """For each box between two harts, and each pair of entries, the first two ends of which either may come first,
+    within so many slots of each hart."""
     found: list[Close] = []
     for box in boxes:
         harts = [hart_for(entries, domain) for domain in (box.sender, box.receiver)]
@@ -149,6 +161,7 @@ class _Ends:
     """The ends of the slots of an entry, as its hart comes to them: from the first on, one in each turn."""
 
     entry: int
+    domain: int
     first_slot: int
     first: int
     turn: int
@@ -162,43 +175,51 @@ class _Ends:
         """The slot, and when it ends."""
         return self.first_slot + number * self.slots_of_a_turn, self.first + number * self.turn
 
+    def end(self, number: int) -> tuple[int, int]:
+        """When it ends, and whose it is."""
+        return self.at(number)[1], self.domain
+
 
 def _ends_on(entries: Sequence[Entry], hart: int) -> list[_Ends]:
     places = places_on(entries, hart)
     turn = sum(entries[place].length + entries[place].pad for place in places)
     slots = slots_of(entries, len(places), hart)
-    return [_Ends(slot.entry, place, slot.end, turn, len(places)) for place, slot in enumerate(slots)]
+    return [
+        _Ends(slot.entry, slot.domain, place, slot.end, turn, len(places)) for place, slot in enumerate(slots)
+    ]
 
 
 def _close(
-    entries: Sequence[Entry], box: Box, harts: tuple[int, int], longest: int, slots: int
+    entries: Sequence[Entry], box: Box, harts: tuple[int, int], longest: Sequence[int], slots: int
 ) -> Iterator[Close]:
     sends, befores = _ends_on(entries, harts[0]), _ends_on(entries, harts[1])
     for one in sends:
         for place, other in enumerate(befores):
             # (a slot's end is followed by the next entry's slot)
             receives = befores[(place + 1) % len(befores)].entry
-            if entries[one.entry].domain != box.sender or entries[receives].domain != box.receiver:
+            if one.domain != box.sender or entries[receives].domain != box.receiver:
                 continue
             first = _first_close(one, other, longest, slots)
             if first is not None:
                 (sent, left), (ended, came) = one.at(first[0]), other.at(first[1])
-                yield Close(box, one.entry, receives, (sent, ended), (left, came))
+                is_own = (left, harts[0]) < (came, harts[1])
+                passes = one.domain if is_own else other.domain
+                yield Close(box, one.entry, receives, (sent, ended), (left, came), passes)
 
 
-def _first_close(one: _Ends, other: _Ends, longest: int, slots: int) -> tuple[int, int] | None:
-    """The first ends of two entries that are so close, by their numbers."""
+def _first_close(one: _Ends, other: _Ends, longest: Sequence[int], slots: int) -> tuple[int, int] | None:
+    """The first ends of two entries of which either may come first, by their numbers."""
     # (modulo this number the distances of all ends are the same)
     step = gcd(one.turn, other.turn)
-    rest = (one.first - other.first) % step
-    if min(rest, step - rest) >= longest:
+    after = (one.first - other.first) % step
+    if after >= longest[other.domain] and step - after >= longest[one.domain]:
         return None
     # (the last slot of a run has no switch after it)
     counts = one.count(slots - 1), other.count(slots - 1)
     for number in range(counts[0]):
-        nearest = -(-(one.at(number)[1] - longest + 1 - other.first) // other.turn)
+        nearest = -(-(one.at(number)[1] - longest[other.domain] + 1 - other.first) // other.turn)
         its = max(nearest, 0)
-        if its < counts[1] and abs(one.at(number)[1] - other.at(its)[1]) < longest:
+        if its < counts[1] and _is_open(one.end(number), other.end(its), longest):
             return number, its
     return None
 
@@ -213,7 +234,7 @@ class OpenOrders:
         boxes = boxes_in_use(image, boxes_of(image, file))
         self._names = domain_names(image)
         self._entries = entries_of(image, file) if boxes else []
-        self._longest = longest_event(image, file) if boxes else 0
+        self._longest = longest_events(image, file) if boxes else []
         self.close = close_switches(self._entries, boxes, self._longest)
 
     def sentences(self) -> list[str]:
@@ -229,7 +250,8 @@ class OpenOrders:
                 "receives": it.receives,
                 "slots": list(it.slots),
                 "ends": list(it.ends),
-                "longest": self._longest,
+                "passes": self._names[it.passes],
+                "longest": self._longest[it.passes],
                 "sentence": self._sentence(it),
             }
             for it in self.close
@@ -242,5 +264,6 @@ class OpenOrders:
             f"box {it.box.number} ({sender} to {receiver}): on hart {sends} slot {it.slots[0]}, of entry "
             f"{it.sends} ({sender}), ends at {it.ends[0]:,}, and on hart {receives} slot {it.slots[1]}, before "
             f"entry {it.receives} ({receiver}), at {it.ends[1]:,}: they lie apart by {it.apart:,}, and an event "
-            f"may take {self._longest:,}, so which words come in goes by who passes an end"
+            f"of {self._names[it.passes]} may take {self._longest[it.passes]:,}, so which words come in goes by "
+            "who passes an end"
         )

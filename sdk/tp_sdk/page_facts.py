@@ -11,7 +11,7 @@ from typing import Any
 
 from tp_sdk.faults import Fault
 from tp_sdk.keys import HART
-from tp_sdk.mail import TOLD, TOLD_IF_OPEN, are_between_harts, boxes_in_use, boxes_of, longest_event
+from tp_sdk.mail import TOLD, TOLD_IF_OPEN, are_between_harts, boxes_in_use, boxes_of, longest_events
 from tp_sdk.measurements import MEASURES, Measurements, SlotEnded, by_pads, by_schedule, measurements_of
 from tp_sdk.memory import Frame, Memory, Use, memory_of
 from tp_sdk.refusals import Image
@@ -75,8 +75,8 @@ def _schedule(report: Report, entries: Sequence[Entry] | None) -> Facts:
 
 
 def _mail(image: Image | None, entries: Sequence[Entry] | None, report: Report, file: str) -> Facts | None:
-    """The boxes by which words may have come, where it is known when slots began; how long an event may take, and
-    what an arrow is."""
+    """The boxes by which words may have come, where it is known when slots began; how long an event of each domain may
+    take, and what an arrow is."""
     if image is None or entries is None or report.off == "pad":
         return None
     boxes = boxes_in_use(image, boxes_of(image, file))
@@ -84,7 +84,7 @@ def _mail(image: Image | None, entries: Sequence[Entry] | None, report: Report, 
         return None
     return {
         "boxes": [asdict(it) for it in boxes],
-        "longest": longest_event(image, file),
+        "longest": longest_events(image, file),
         "told": TOLD,
         "told_if_open": TOLD_IF_OPEN if are_between_harts(entries, boxes) else None,
     }

@@ -90,6 +90,7 @@ _DOMAIN = _object(
         kept=_array(_object(code=_INTEGER, value=_INTEGER)),
         refused=_array(_REFUSED),
     ),
+    boxes=_array(_object(number=_INTEGER, **{"from": _TEXT, "to": _TEXT})),
     printed=_object(count=_INTEGER, text=_TEXT, hex=_TEXT),
     mem=_TEXT,
     sentences=_array(_TEXT),

@@ -3,13 +3,14 @@
 from __future__ import annotations
 
 from collections import Counter
+from collections.abc import Sequence
 from dataclasses import asdict
 from typing import Any
 
 from tp_sdk.calls import BAD_CALL, CALLS, EVERY_CALL, PUT, callers_of, error_of, in_words
 from tp_sdk.differences import Differences
 from tp_sdk.elf import Loaded
-from tp_sdk.known import Known
+from tp_sdk.known import Known, KnownBox
 from tp_sdk.outline import Switch
 from tp_sdk.report import Report, Section, Stop, Thread
 from tp_sdk.stops import NAMES, Overflow, overflow_of, value_in_words
@@ -77,7 +78,8 @@ class Telling:
         """A domain's section."""
         number = section.number
         known = self.known
-        return DomainTold(section, known.program(number), known.calls_of(number), known.there)
+        boxes = known.boxes_of(section.name)
+        return DomainTold(section, known.program(number), known.calls_of(number), known.there, boxes)
 
     def _on_harts(self) -> str:
         """How many slots each hart had, where there are several."""
@@ -113,8 +115,8 @@ class Telling:
 
 
 class DomainTold:
-    """A section, the domain's program where it is known, and the calls that it may make of those that there
-    are."""
+    """A section, the domain's program where it is known, the calls that it may make of those that there are, and
+    its boxes."""
 
     def __init__(
         self,
@@ -122,11 +124,13 @@ class DomainTold:
         loaded: Loaded | None,
         calls: frozenset[int] = EVERY_CALL,
         there: frozenset[int] = EVERY_CALL,
+        boxes: Sequence[KnownBox] = (),
     ) -> None:
         self.section = section
         self.loaded = loaded
         self.calls = calls
         self.there = there
+        self.boxes = boxes
         self.symbols = loaded.symbols if loaded is not None else Symbols()
 
     # ---- what it came to
@@ -141,6 +145,7 @@ class DomainTold:
             f"{_count(it.retired, 'instruction')} retired",
             *self._printed(),
             *self._replies(),
+            *self._boxes(),
             *self._readings(),
         ]
         return lines[:1] + [f"  {line}" for line in lines[1:]]
@@ -249,6 +254,15 @@ class DomainTold:
     def _codes(self) -> set[int]:
         return {reply.code for reply in self.section.replies}
 
+    def _boxes(self) -> list[str]:
+        """Whom it may tell words, and who may tell it some."""
+        name = self.section.name
+        told = [
+            f"box {it.number} to {it.receiver}" if it.sender == name else f"box {it.number} from {it.sender}"
+            for it in self.boxes
+        ]
+        return [", ".join(told)] if told else []
+
     def _readings(self) -> list[str]:
         it = self.section
         if not it.readings:
@@ -282,6 +296,7 @@ class DomainTold:
                 "kept": [asdict(reply) for reply in it.replies],
                 "refused": [self._refused_fields(code) for code in sorted(self._codes() - {0})],
             },
+            "boxes": [{"number": it.number, "from": it.sender, "to": it.receiver} for it in self.boxes],
             "printed": {"count": len(it.out), "text": it.out.decode(errors="replace"), "hex": it.out.hex()},
             "mem": it.mem,
             "sentences": [line.strip() for line in self.sentences()],

@@ -13,9 +13,9 @@ from typing import Any
 
 from holes import Hole
 from tp_sdk import keys
-from tp_sdk.calls import BAD_CALL, CALLS, ERRORS, EVERY_CALL, error_of, in_words
+from tp_sdk.calls import BAD_CALL, CALLS, ERRORS, EVERY_CALL, MAIL_CALLS, error_of, in_words
 from tp_sdk.explain import Explanation, Other, label
-from tp_sdk.known import Known, KnownEntry
+from tp_sdk.known import Known, KnownBox, KnownEntry
 from tp_sdk.refusals import CASES, limits_in_words
 from tp_sdk.report import Reply, Stop, Switch, Thread
 from tp_sdk.stops import NAMES, Overflow, value_in_words, whereabouts
@@ -82,7 +82,17 @@ def of_counts() -> dict[str, str]:
     for word, made in (("readings_many", _MANY), ("readings_kept", _UNKNOWN)):
         told = _domain(readings_count=Hole("count", made), readings=(first, 7))._readings()[0]
         words[word] = with_holes(told, steps="+7", **({"kept": 2} if made == _UNKNOWN else {}))
-    return words | of_replies()
+    return words | of_replies() | of_boxes()
+
+
+def of_boxes() -> dict[str, str]:
+    """A box to another domain, and one from it."""
+    told = _domain(name="")
+    words = {}
+    for word, ends in (("box_to", ("", "{name}")), ("box_from", ("{name}", ""))):
+        told.boxes = [KnownBox(Hole("box"), *ends)]
+        words[word] = told._boxes()[0]
+    return words
 
 
 def of_replies() -> dict[str, str]:
@@ -104,7 +114,7 @@ def of_calls() -> dict[str, Any]:
     put = CALLS[1]
     unknown = error_of(_UNKNOWN)
     words: dict[str, Any] = {"calls": [asdict(it) for it in CALLS], "errors": [asdict(it) for it in ERRORS]}
-    words |= {"bad_call": BAD_CALL.code, "unknown": asdict(unknown)}
+    words |= {"bad_call": BAD_CALL.code, "mail_calls": sorted(MAIL_CALLS), "unknown": asdict(unknown)}
     for word, number in (("one", _ONE), ("many", _MANY)):
         told = _domain()._refused(Hole("code", _UNKNOWN), Hole("count", number))
         told = with_holes(told, error=unknown.name, where=unknown.so_where)
@@ -247,7 +257,7 @@ def of_refusals() -> dict[str, Any]:
 
 
 def _refusal(stands: str) -> Explanation:
-    other = Other(Hole("line"), Hole("column"), "{other}", "{other_stands}")
+    other = Other(Hole("line"), Hole("column"), (), "{other}", "{other_stands}")
     return Explanation(
         "{file}", 1, 1, 1, 1, "{case}", (), "{what}", stands, "{broken}", "{wanted}", "", "", other
     )

@@ -1,4 +1,4 @@
-// What the page knows of an image by its text: names, the schedule, harts, lists of calls, segments.
+// What the page knows of an image by its text: names, the schedule, harts, lists of calls, boxes, segments.
 
 import { readToml } from './toml.js';
 
@@ -19,8 +19,16 @@ export function readImage(text) {
     entries,
     harts: 1 + Math.max(...entries.map((it) => it.hart)),
     calls: domains.map((it) => (Array.isArray(it.calls) ? it.calls : null)),
+    boxes: boxesOf(tablesOf(root.mail), domains.length),
     segments: domains.map((it) => tablesOf(it.segment).map(segmentOf)),
   };
+}
+
+// The boxes, where each is between two domains; else there are none to tell of.
+function boxesOf(tables, domains) {
+  const isDomain = (it) => Number.isSafeInteger(it) && it >= 0 && it < domains;
+  if (!tables.every(({ from, to }) => isDomain(from) && isDomain(to))) return [];
+  return tables.map(({ from, to }, number) => ({ number, from, to }));
 }
 
 // As sdk/ names the segments of an image, which has no names for them.

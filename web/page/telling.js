@@ -37,6 +37,7 @@ export class Telling {
       fill(this.words[`retired_${manyOf(section.retired)}`], { count: section.retired }),
       ...this.#printed(section.out),
       ...this.#replies(section),
+      ...this.#boxes(section),
       ...this.#readings(section),
     ];
   }
@@ -98,27 +99,35 @@ export class Telling {
     const shown = places.slice(0, SHOWN.places).join(', ') + (places.length > SHOWN.places ? ', ..' : '');
     return fill(this.calls[`refused_${manyOf(places.length)}`], {
       count: places.length, error: error.name, code, where: error.so_where,
-      callers: this.#callers(code, this.image?.calls[domain] ?? null), places: shown,
+      callers: this.#callers(code, domain), places: shown,
     });
   }
 
-  // The calls that can be refused with a code, where only some may be made, or all (null).
-  #callers(code, allowed) {
-    const { calls } = this.calls;
-    const isAllowed = ({ number }) => allowed === null || allowed.includes(number);
+  // The calls of a domain that can be refused with a code, of those that there are.
+  #callers(code, domain) {
+    const { calls, mail_calls: ofMail, bad_call: badCall } = this.calls;
+    const there = this.image?.boxes.length === 0 ? calls.filter((it) => !ofMail.includes(it.number)) : calls;
+    const allowed = there.filter((it) => this.image?.calls[domain]?.includes(it.number) ?? true);
     const names = (some) => some.map((it) => it.name);
-    if (code === this.calls.bad_call && !calls.every(isAllowed)) {
-      const others = names(calls.filter(isAllowed));
-      if (!others.length) return this.calls.callers_all;
-      return fill(this.calls.callers_all_but, { names: this.#inWords(others, 'and') });
+    if (code === badCall && allowed.length < there.length) {
+      if (!allowed.length) return this.calls.callers_all;
+      return fill(this.calls.callers_all_but, { names: this.#inWords(names(allowed), 'and') });
     }
-    const callers = names(calls.filter((it) => isAllowed(it) && it.refused_with.includes(code)));
+    const callers = names(allowed.filter((it) => it.refused_with.includes(code)));
     return callers.length ? fill(this.calls.callers, { names: this.#inWords(callers, 'or') }) : '';
   }
 
   #inWords(names, word) {
     if (names.length === 1) return names[0];
     return fill(this.calls[word], { others: names.slice(0, -1).join(', '), last: names.at(-1) });
+  }
+
+  #boxes({ number: own }) {
+    const told = (this.image?.boxes ?? []).filter(({ from, to }) => from === own || to === own)
+      .map(({ number, from, to }) => (from === own
+        ? fill(this.words.box_to, { box: number, name: this.image.names[to] })
+        : fill(this.words.box_from, { box: number, name: this.image.names[from] })));
+    return told.length ? [told.join(', ')] : [];
   }
 
   #readings({ readingsCount, readings }) {

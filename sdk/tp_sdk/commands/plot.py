@@ -17,7 +17,7 @@ from tp_sdk.images import read_image
 from tp_sdk.information import Measured, capacity, entropy, measure
 from tp_sdk.keys import VERSION, version_of
 from tp_sdk.measurements import by_pads, by_schedule, measurements_of, rows_of
-from tp_sdk.mail import Mail, boxes_in_use, boxes_of, longest_event
+from tp_sdk.mail import Mail, boxes_in_use, boxes_of, longest_events
 from tp_sdk.memory import memory_of
 from tp_sdk.pictures import refuse_suffix
 from tp_sdk.plot_tables import write_channel, write_chart, write_memory, write_readings, write_timeline
@@ -126,7 +126,7 @@ def _mail(image: _Scheduled) -> Mail:
     """The boxes into which words may be put."""
     file = str(image.file)
     boxes = boxes_in_use(image.image, boxes_of(image.image, file))
-    return Mail(boxes, longest_event(image.image, file) if boxes else 0)
+    return Mail(boxes, longest_events(image.image, file) if boxes else [])
 
 
 def _replay(

@@ -2,8 +2,8 @@
 // the next switch that begins a slot of the receiver, at the end of the slot before that.
 
 export class Mail {
-  // `lanes` are those of the harts; where two ends lie apart by less than `longest` cycles, the longest event, the
-  // schedule doesn't tell which comes first.
+  // `lanes` are those of the harts. Where one slot ends before another by fewer cycles than its domain's longest event
+  // takes, the schedule doesn't tell which switch comes first.
   constructor({ boxes, longest }, lanes) {
     const of = (domain) => lanes.find((lane) => lane.domains.includes(domain));
     this.longest = longest;
@@ -33,13 +33,18 @@ export class Mail {
     return [...new Map(each.map((it) => [`${it.box.number} ${it.left.number}`, it])).values()];
   }
 
+  #isOpen(one, other) {
+    const { longest } = this;
+    return other.end - one.end < longest[one.entry.domain] && one.end - other.end < longest[other.entry.domain];
+  }
+
   #delivery(box, left) {
     const { from, to } = box;
     const came = firstAfter(box, left.end);
     if (came === null) return null;
     const near = [came.number, begunBefore(box, came.number)].filter((it) => it !== null);
-    const isClose = near.some((it) => Math.abs(begins(to, it) - left.end) < this.longest);
-    return { box, left, came, isOpen: from !== to && isClose };
+    const isOpen = from !== to && near.some((it) => this.#isOpen(left, to.slot(it - 1)));
+    return { box, left, came, isOpen };
   }
 }
 
