@@ -31,6 +31,15 @@ function boxesOf(tables, domains) {
   return tables.map(({ from, to }, number) => ({ number, from, to }));
 }
 
+// The domains that may tell one words, by boxes to it and to those: what it sees goes by theirs, too.
+export function sendersOf({ boxes }, domain) {
+  const found = [domain];
+  for (const own of found) { // (it grows)
+    found.push(...boxes.filter(({ from, to }) => to === own && !found.includes(from)).map(({ from }) => from));
+  }
+  return found.slice(1).sort((one, other) => one - other);
+}
+
 // As sdk/ names the segments of an image, which has no names for them.
 function segmentOf({ page, pages, rights }, number) {
   return { segment: `segment${number}`, rights: `${rights}`, pages, start: page * PAGE, end: (page + pages) * PAGE };

@@ -1,7 +1,7 @@
 // What came of a call: in words, as a timeline, as the spy's picture, and as it is.
 
 import { element, find, marked } from './dom.js';
-import { readImage } from './image.js';
+import { readImage, sendersOf } from './image.js';
 import { STATUS } from './module.js';
 import { explain, parseRefusal } from './refusal.js';
 import { parseReport, parseSection } from './report.js';
@@ -78,15 +78,26 @@ export class Results {
     for (const { number, text: section } of report.sections) {
       const alone = await ask({ command: 'alone', domain: number, slots: call.slots });
       const other = parseSection(alone.text ?? '')?.text;
-      find(`alone-${number}`).replaceChildren(...comparedOf(section, other));
-      find(`alone-${number}`).classList.toggle('differs', section !== other);
+      const senders = sendersOf(image, number).map((it) => image.names[it]);
+      find(`alone-${number}`).replaceChildren(...comparedOf(section, other, senders));
+      find(`alone-${number}`).classList.toggle('differs', section !== other && !senders.length);
     }
     if (call.command === 'ablate' && call.off === 'pad') return;
     const runs = [];
     for (let slots = 0; slots <= Math.min(call.slots, MOST_SLOTS); slots++) {
       runs.push(parseReport((await ask({ ...call, slots })).text));
     }
-    find('time').replaceChildren(timelineOf(image, report, didOf(image, runs)), legend());
+    const mail = await this.#mail(ask, image);
+    find('time').replaceChildren(timelineOf(image, report, didOf(image, runs), mail), legend(mail));
+  }
+
+  // The boxes into which one may put words, and how long events are, by the bound; null where there is no box.
+  async #mail(ask, image) {
+    const send = this.words.calls.calls.find((it) => it.name === 'SEND').number;
+    const boxes = image.boxes.filter(({ from }) => image.calls[from]?.includes(send) ?? true)
+      .map(({ number, from, to }) => ({ number, sender: from, receiver: to }));
+    if (!boxes.length) return null;
+    return { boxes, longest: longestOf(image, (await ask({ command: 'bound' })).text) };
   }
 
   #noTimeline(call, report) {
@@ -114,13 +125,25 @@ function sectionOf([state, ...lines], { number }) {
   return element('article', { class: 'section' }, element('h4', {}, state), element('ul', {}, ...lines.map(item)), alone);
 }
 
-function comparedOf(section, alone) {
+function comparedOf(section, alone, senders) {
   if (alone === undefined) return [];
   if (section === alone) return ['✓ Alone it sees the same, to the byte: run again just now with no other domain.'];
   const [lines, others] = [section, alone].map((it) => it.split('\n'));
   const count = lines.filter((line, place) => line !== others[place]).length;
   const differ = count === 1 ? 'line differs' : 'lines differ';
+  if (senders.length) {
+    return [`Alone no word comes in, and ${count} ${differ}: boxes lead to it, from ${senders.join(', ')}.`];
+  }
   return [`✗ Alone it would see something else: ${count} ${differ}, so its neighbours show.`];
+}
+
+// How many cycles an event of each domain may take, by what `bound` writes: an instruction, and the call that it makes.
+function longestOf({ names, entries }, text) {
+  const instruction = Number(/^instruction (\d+)$/m.exec(text)[1]);
+  const calls = [...text.matchAll(/^(?:entry (\d+) )?operation (\d+)/gm)];
+  // (in version 1 it is the same for all)
+  const ofDomain = (domain) => calls.filter(([, entry]) => entry === undefined || entries[entry].domain === domain);
+  return names.map((_, domain) => instruction + Math.max(0, ...ofDomain(domain).map(([, , cycles]) => Number(cycles))));
 }
 
 // What each slot of each hart did: a run of one slot more, less the one before it.

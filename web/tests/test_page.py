@@ -153,6 +153,36 @@ def test_with_a_guard_off_a_domain_alone_differs(page: Page) -> None:
     assert "Alone it would see something else" in told
 
 
+def test_a_domain_to_which_boxes_lead_may_differ_alone(page: Page) -> None:
+    open_image(page, "key-store.toml")
+    run(page)
+    told = page.find("words").text
+    assert "box 0 from friend, box 1 to friend, box 2 from stranger" in told
+    assert "Alone no word comes in, and 2 lines differ: boxes lead to it, from stranger, store." in told
+    assert told.count("Alone it sees the same, to the byte") == 2
+    assert page.script("return document.querySelectorAll('.alone.differs').length") == 0
+
+
+def test_words_of_boxes_are_drawn(page: Page) -> None:
+    open_image(page, "key-store.toml")
+    run(page)
+    page.find("tab-time").click()
+    told = page.script("return document.getElementById('timeline-desc').textContent")
+    due = "What friend put into box 0 until cycle 8150, if anything, came in in the slot of store from 22450."
+    assert due in told and "earlier or later" not in told
+    arrows = "return document.querySelectorAll('.timeline line.mail').length"
+    assert page.script(arrows) == told.count("What ") == 5
+    assert "Arrows: words of a box" in page.find("time").text
+    # between harts, in which ends lie near each other
+    boxes = "\n[[mail]]\nfrom = 0\nto = 1\n"
+    page.write((EXAMPLES / "two-harts.toml").read_text() + boxes)
+    page.script("document.getElementById('slots').value = 2")
+    run(page)
+    told = page.script("return document.getElementById('timeline-desc').textContent")
+    assert page.script(arrows) == page.script(arrows.replace("line.mail", "line.mail.open")) == 1
+    assert told.endswith(", or in one earlier or later.")
+
+
 @pytest.mark.parametrize("command", ["alone", "harts", "check", "bound"])
 def test_the_other_commands(page: Page, command: str) -> None:
     open_image(page, "two-harts.toml")
@@ -227,7 +257,8 @@ def test_a_fault_is_marked_at_its_place(page: Page) -> None:
         ("fra", ["frames"]),
         ("l1i = { sets = 16, pol", ["policy"]),
         ('l1i = { sets = 16, ways = 2, policy = "', ["lru", "fifo", "plru", "nmru"]),
-        ("[[", ["domain", "schedule"]),
+        ("[[", ["domain", "schedule", "mail"]),
+        ("[[mail]]\nfr", ["from"]),
         ("[[domain]]\nname = 'red'\ncol", ["colours"]),
         ("[[domain]]\nsegment = [\n  { page = 1, ri", ["rights"]),
         ("[[schedule]]\ndomain = 0\nlen", ["length"]),
