@@ -3,10 +3,12 @@
 from __future__ import annotations
 
 import base64
+import json
 import re
 import sys
 from importlib.metadata import PackageNotFoundError, version
 from importlib.util import find_spec
+from types import SimpleNamespace
 from typing import Any
 
 import pytest
@@ -23,20 +25,38 @@ AGAIN = "make -C docs/lessons makes the outputs again"
 
 @pytest.fixture(scope="module")
 def stored() -> Any:
-    """The notebook as it stands."""
-    return pytest.importorskip("nbformat").read(NOTEBOOK, as_version=4)
+    """The notebook as it stands, with what nbformat makes of it that the tests look at. (They need no library for it.)"""
+
+    def joined(text: str | list[str]) -> str:
+        return text if isinstance(text, str) else "".join(text)
+
+    def output(it: dict[str, Any]) -> SimpleNamespace:
+        data = {kind: joined(text) for kind, text in it.get("data", {}).items()}
+        return SimpleNamespace(output_type=it["output_type"], text=joined(it.get("text", "")), data=data)
+
+    cells = [
+        SimpleNamespace(
+            id=it["id"],
+            cell_type=it["cell_type"],
+            source=joined(it["source"]),
+            outputs=[output(each) for each in it.get("outputs", [])],
+        )
+        for it in json.loads(NOTEBOOK.read_text())["cells"]
+    ]
+    return SimpleNamespace(cells=cells)
 
 
 @pytest.fixture(scope="module")
-def executed(stored: Any, program: Program) -> Any:
+def executed(program: Program) -> Any:
     """The notebook, run on the program."""
+    nbformat = pytest.importorskip("nbformat")
     pytest.importorskip("matplotlib")
     lacking = [it for it in ("nbconvert", "ipykernel") if find_spec(it) is None]
     if lacking:
         pytest.skip(f"there is no {lacking[0]}")
     from nbconvert.preprocessors import ExecutePreprocessor
 
-    again = stored.copy()
+    again = nbformat.read(NOTEBOOK, as_version=4)
     with pytest.MonkeyPatch.context() as patch:
         patch.setenv(VARIABLE, str(program.path))
         patch.setenv("PYDEVD_DISABLE_FILE_VALIDATION", "1")
