@@ -376,6 +376,18 @@ def test_a_third_domain_may_decide_what_comes_in_by_a_box_that_is_named(program:
     assert came == {9999: [nothing, word], 5417: [nothing] * 2, 5418: [nothing] * 2}
 
 
+def test_it_goes_by_the_events_of_the_domain_whose_slot_ends_first() -> None:
+    # green's ends lie before red's by 1,000, and then after
+    for length in (9000, 11000):
+        image = tomllib.loads("version = 2\n" + of_three(length, WAITS))
+        assert [it.passes for it in OpenOrders(image, "image").close] == [2 if length == 9000 else 0]
+        for domain in (0, 1, 2):
+            fewer = tomllib.loads("version = 2\n" + of_three(length, WAITS))
+            fewer["domain"][domain]["calls"] = [0, 19, 20]
+            # (with these an event takes 807 at most; red must be one that may SEND)
+            assert bool(OpenOrders(fewer, "image").close) == (domain != (2 if length == 9000 else 0))
+
+
 def test_tp_image_names_them(tmp_path: Path, monkeypatch: pytest.MonkeyPatch) -> None:
     monkeypatch.setenv("TP", str(tmp_path / "none"))
     file = write(tmp_path, ON_TWO)
