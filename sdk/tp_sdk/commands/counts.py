@@ -21,8 +21,8 @@ _HELP = """Counts the events of a domain's slots, by their costs:
   tp-counts mine.toml --domain victim --slots 4
 
 The program is run many times, with each cost one cycle more: so it must be there, and what
-the domain does must not depend on its clock, nor may it have interrupts: it is checked that it
-comes to the same state, and that the counts make up the cycles. A slot's
+the domain does must not depend on its clock, nor may it have interrupts, nor may a box lead to
+it: it is checked that it comes to the same state, and that the counts make up the cycles. A slot's
 last instruction or call is not counted: its time may be the pad's. '?' is a slot that is too
 short to tell. The columns are, by the costs of docs/IMAGE.md:
 

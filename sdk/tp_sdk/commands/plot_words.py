@@ -15,8 +15,8 @@ _HELP = """Draws reports of `tp run`, `tp harts` and `tp ablate`, as NAME.svg or
   tp-plot timeline mine.toml mine.report -o mine.svg
       what was done in each slot, and what each switch used of its pad, as running the image
       again tells; with no program, what the report alone does; of several harts a lane for each, by
-      its own clock; of an image of version 2 also each domain's bound on a switch, beside the one
-      with every call
+      its own clock; arrows to where words of boxes may have come in; of an image of version 2 also
+      each domain's bound on a switch, beside the one with every call
   tp-plot readings FOLDER --domain spy -o spy.svg
       what one domain measured in each FOLDER/*.report: a spy beside many neighbours, say
   tp-plot matrix FOLDER OTHER --domain spy -o spy.svg
@@ -25,7 +25,7 @@ _HELP = """Draws reports of `tp run`, `tp harts` and `tp ablate`, as NAME.svg or
       there are too many measurements for a picture, those that differ. Bits are told as the entropy,
       where each neighbour or secret is equally likely, and the capacity, however likely each is
   tp-plot memory mine.toml -o mine.svg
-      whose each frame and each set of the second level is, and what is shared
+      whose each frame and each set of the second level is, what is shared, and who may tell whom
   tp-plot sweep out.csv -o out.svg
       what tp-sweep wrote: the capacity, or another column (--of), by one or two of the varied
       things (--key), as lines or as a map, a side for each observer

@@ -24,16 +24,16 @@ from tp_sdk.run_again import refuse_another_run
 from tp_sdk.telling import Telling
 
 _HELP = """Tells in sentences what a report of `tp run` says: what each domain came to, and where in
-its program; its calls, by the errors of their replies; its readings, as differences.
+its program; its calls, by the errors of their replies; its boxes; its readings, as differences.
 
   tp-report mine.report --image mine.toml     a description: its programs' symbols and lines are told
   tp-report mine.report --image mine.image --elf mine=out/mine.elf
   tp-report mine.report --against other.report    also where the second report differs
   tp-report mine.report --image mine.toml --html mine.html
 
-The last writes a page: one file with the sentences, a timeline, what switches used of their pads, whose
-memory is whose, and readings. It asks no server for anything. With no image it has no map of the memory,
-and of the timeline the pads alone.
+The last writes a page: one file with the sentences, a timeline, with arrows to where words of boxes may
+have come in, what switches used of their pads, whose memory is whose, and readings. It asks no server for
+anything. With no image it has no map of the memory, and of the timeline the pads alone.
 
 Source lines are there where a program was compiled with -g, as sdk/c/Makefile does. A reply has
 no call's number: the calls that may have had it are told.

@@ -31,8 +31,10 @@ and values, with commas between, are numbers, 0..15, 0..64..8 (each eighth), 8..
 
 The secret is what is varied at symbols, or as moments, of the first domain that --vary names one
 of; the other domains observe (itself, where there is no other). --secret and --observer say
-otherwise. A point is a combination of all that is varied and is no secret. At each point every
-value of the secret is run, and a row tells of each observer
+otherwise. An observer to which a box leads from the secret's domain may be told it.
+
+A point is a combination of all that is varied and is no secret. At each point every value of the
+secret is run, and a row tells of each observer
 
   sections     how many different sections it has: 1, where it can't tell any two secrets apart
   entropy      bits of the secret that a section tells where each secret is equally likely
