@@ -257,11 +257,15 @@ def told_of_boxes(image: dict[str, Any], count: int) -> dict[tuple[int, int], li
             f"slot {place + 1}{f' of hart {hart}' if is_of_many else ''}, of {names[domain]}"
             for place, hart, domain in zip((it.left, it.came), harts, (it.box.sender, it.box.receiver))
         )
-        ends = [f", or in a slot of {of} earlier or later" if it.is_open else "" for of in ("that", "its own")]
+        ends = [
+            f", or in a slot of {of} earlier or later" if it.is_open else "" for of in ("that", "its own")
+        ]
         words = f"What it put into box {it.box.number}, if anything, came in in {came}{ends[0]}."
         by.setdefault((harts[0], it.left), []).append(words)
         # (the last words before a slot are what comes in)
-        to[harts[1], it.came, it.box.number] = f"In it came in what {left}, put into box {it.box.number}{ends[1]}."
+        to[
+            harts[1], it.came, it.box.number
+        ] = f"In it came in what {left}, put into box {it.box.number}{ends[1]}."
     for hart, place, box in sorted(to):
         by.setdefault((hart, place), []).append(to[hart, place, box])
     return by

@@ -25,7 +25,7 @@ AGAIN = "make -C docs/lessons makes the outputs again"
 
 @pytest.fixture(scope="module")
 def stored() -> Any:
-    """The notebook as it stands, with what nbformat makes of it that the tests look at. (They need no library for it.)"""
+    """The notebook as it stands, as far as the tests look at it. (They need no library for that.)"""
 
     def joined(text: str | list[str]) -> str:
         return text if isinstance(text, str) else "".join(text)

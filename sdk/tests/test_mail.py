@@ -289,7 +289,10 @@ def test_the_first_close_ends_are_those_that_are_found_one_by_one() -> None:
 
 
 def test_deliveries_lead_to_the_next_slot_of_the_receiver() -> None:
-    told = [(it.box.number, it.left, it.came, it.is_open) for it in deliveries(ENTRIES, Mail(BOXES, [4583] * 3), 4)]
+    told = [
+        (it.box.number, it.left, it.came, it.is_open)
+        for it in deliveries(ENTRIES, Mail(BOXES, [4583] * 3), 4)
+    ]
     assert told == [
         # of two ends in one cycle that of the lesser hart comes first
         (0, 0, 2, True),

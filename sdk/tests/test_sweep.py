@@ -470,7 +470,12 @@ def test_a_program_that_is_another_one_is_told_of_by_whichever_worker_comes_firs
     command = [sys.executable, SDK / "tp-sweep", VICTIM, *words]
     for _ in range(5):
         ended = subprocess.run(
-            command, env=os.environ | {"TP": str(tp)}, capture_output=True, text=True, check=False, timeout=MOST_SECONDS
+            command,
+            env=os.environ | {"TP": str(tp)},
+            capture_output=True,
+            text=True,
+            check=False,
+            timeout=MOST_SECONDS,
         )
         assert (ended.returncode, ended.stderr) == (
             3,

@@ -142,7 +142,9 @@ class Swept:
 
     def __str__(self) -> str:
         ratio = f"{self.taken / self.own:.3f}"
-        return f"{self.taken:.2f} s of a sweep, {self.own:.2f} s of the program in its {self.runs} runs: {ratio}"
+        return (
+            f"{self.taken:.2f} s of a sweep, {self.own:.2f} s of the program in its {self.runs} runs: {ratio}"
+        )
 
 
 def seconds_of_processes() -> float:

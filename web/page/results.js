@@ -137,7 +137,8 @@ function comparedOf(section, alone, senders) {
   return [`✗ Alone it would see something else: ${count} ${differ}, so its neighbours show.`];
 }
 
-// How many cycles an event of each domain may take, by what `bound` writes: an instruction, and the call that it makes.
+// How many cycles an event of each domain may take, by what `bound` writes: an instruction, and the
+// call that it makes.
 function longestOf({ names, entries }, text) {
   const instruction = Number(/^instruction (\d+)$/m.exec(text)[1]);
   const calls = [...text.matchAll(/^(?:entry (\d+) )?operation (\d+)/gm)];

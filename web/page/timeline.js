@@ -21,7 +21,8 @@ export function timelineOf(image, report, did, mail) {
   const lanes = Array.from({ length: image.harts }, (_, hart) => laneOf(image, hart, slots));
   const last = Math.max(1, ...lanes.flatMap(({ slots: some }) => some.map((it) => it.padEnd)));
   const x = (cycle) => LEFT + (cycle / last) * (WIDE - LEFT - 8);
-  const told = mail && slots ? deliveries(image, slots, mail) : [];
+  const isOfEnded = ({ box: { from }, left }) => did?.[from.hart]?.[left.number]?.hadEnded;
+  const told = mail && slots ? deliveries(image, slots, mail).filter((it) => !isOfEnded(it)) : [];
   const words = [...lanes.map((lane) => described(image, lane, did)), ...told.map((it) => toldOf(image, it))];
   let top = 8;
   const picture = svg('svg', { class: 'timeline', role: 'img', 'aria-labelledby': 'timeline-title timeline-desc' });
@@ -45,7 +46,8 @@ export function timelineOf(image, report, did, mail) {
 // A legend in words.
 export function legend(mail) {
   return element('p', { class: 'told' }, 'Filled: a slot, with the instructions retired in it. Dashed: the domain '
-    + 'had ended. Grey: the pad, and in it dark the most that a switch of that entry used. Strokes: clocks that it read.'
+    + 'had ended. Grey: the pad, and in it dark the most that a switch of that entry used. Strokes: clocks that '
+    + 'it read.'
     + (mail ? ' Arrows: words of a box, if any were put in, to the slot in which they came in; dotted, or in one '
       + 'earlier or later: by who passed an end.' : ''));
 }
@@ -67,13 +69,14 @@ function arrowOf({ box: { sender, receiver }, left, came, isOpen }, x, rows) {
 
 function headOfArrow() {
   const size = { viewBox: '0 0 6 6', refX: 6, refY: 3, markerWidth: 6, markerHeight: 6, orient: 'auto' };
-  return svg('defs', {}, svg('marker', { id: 'mail-head', ...size }, svg('path', { class: 'mail', d: 'M0 0L6 3L0 6' })));
+  const lines = svg('path', { class: 'mail', d: 'M0 0L6 3L0 6' });
+  return svg('defs', {}, svg('marker', { id: 'mail-head', ...size }, lines));
 }
 
 function toldOf({ names }, { box, left, came, isOpen }) {
   const open = isOpen ? ', or in one earlier or later' : '';
-  return `What ${names[box.sender]} put into box ${box.number} until cycle ${left.end}, if anything, came in in the slot `
-    + `of ${names[box.receiver]} from ${came.start}${open}.`;
+  const put = `What ${names[box.sender]} put into box ${box.number} until cycle ${left.end}, if anything,`;
+  return `${put} came in in the slot of ${names[box.receiver]} from ${came.start}${open}.`;
 }
 
 // ---- slots

@@ -78,7 +78,9 @@ def _parser() -> ArgumentParser:
     add("--machine", type=Path, default=C / "machine.toml", help="a file with its keys")
     how = parser.add_mutually_exclusive_group()
     how.add_argument("--off", choices=GUARDS, help="the guard that is off, as in `tp ablate`")
-    how.add_argument("--alone", metavar="NAME", help="the domain that alone is there, as in `tp alone`: no word comes in")
+    how.add_argument(
+        "--alone", metavar="NAME", help="the domain that alone is there, as in `tp alone`: no word comes in"
+    )
     how.add_argument(
         "--harts",
         type=number_within(SEED, "a seed"),
