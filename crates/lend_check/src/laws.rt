@@ -1,0 +1,24 @@
+//! Laws of the definitions.
+ghost use Rattle.lend_check.specs.Laws.{AcceptedLaw, CauseLaw, ChildLaw, DistinctLaw, LimitLaw, EntryLaw};
+
+/// The rule lets through exactly the images of which each lent colour is a colour of
+/// the memory, nobody's own, lent once and of seven frames; each entry that is set
+/// aside is for a colour that its domain lends; and parties are few enough.
+pub fn accepted()
+    ensures accepted { AcceptedLaw }
+{}
+
+/// It refuses an image exactly for the first broken case: of lent colours in their
+/// order, then of entries in theirs, and then of how many parties there are.
+pub fn causes()
+    ensures cause { CauseLaw }
+{}
+
+/// The child of a lent colour has the number of domains and the colour's place. No
+/// two parties have one number, each is below the limit, and an entry's has one.
+pub fn parties()
+    ensures child { ChildLaw }
+    ensures distinct { DistinctLaw }
+    ensures limit { LimitLaw }
+    ensures entry { EntryLaw }
+{}

@@ -1,0 +1,38 @@
+// The numbers of parties.
+ghost use Rattle.std.specs.Prelude.{◌≡◌, ◌<◌, ◌^◌, length, map, IfSome};
+ghost use Rattle.image_record.specs.Cases.{first_in};
+ghost use Rattle.lend_check.specs.Lending.{said, lent_by};
+ghost use Rattle.lend_check.specs.Parties as spec;
+ghost use Rattle.lend_check.specs.Models.{domain_model};
+
+use crate::lending::LendingDomain;
+
+/// How many colours these domains lend.
+pub(crate) fn lent_count(domains: &[LendingDomain]) -> usize
+    requires few { length (said (map domain_model domains.now)) < 2 ^ 63 }
+    ensures value { result ≡ length (said (map domain_model domains.now)) }
+{
+    let mut count = 0;
+    for domain in domains {
+        count += domain.lend.len();
+    }
+    count
+}
+
+/// The place of a colour in a domain's list.
+fn place_in(lend: &[i64], colour: i64) -> Option<usize>
+    ensures value { (d : ℕ) → result ≡ first_in (spec.if_child (d, colour)) (lent_by d lend.now) }
+    ensures within { IfSome result (λ k. k < length lend.now) }
+{
+    lend.iter().position(|&other| other == colour)
+}
+
+/// The number of the child of a colour that a domain lends: how many domains there
+/// are, and the colour's place among all that are lent. None where it lends no such.
+pub fn child_number(domains: &[LendingDomain], domain: usize, colour: i64) -> Option<usize>
+    requires few { spec.parties (map domain_model domains.now) < 2 ^ 63 }
+    ensures value { result ≡ spec.child_number (map domain_model domains.now) domain colour }
+{
+    let place = place_in(domains.get(domain)?.lend.as_slice(), colour)?;
+    Some(domains.len() + lent_count(&domains[..domain]) + place)
+}
