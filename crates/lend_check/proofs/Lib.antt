@@ -1,0 +1,6 @@
+pub mod Firsts
+pub mod Walks
+pub mod Colours
+pub mod Kept
+pub mod Causes
+pub mod Numbers
