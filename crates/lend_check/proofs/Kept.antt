@@ -47,6 +47,14 @@ get_lent domains k l =
 
 -- ---- its cases
 
+pub may_at : (whole : Whole) (domains : List LendingDomain) (k : ℕ)
+    → is_barred whole.colours domains (take k (said domains)) (said_at domains k).1 ≡ false
+    → MayBeLent whole.colours domains (take k (lent domains)) (natural_of (said_at domains k).1)
+may_at whole domains k free =
+    let l = said_at domains k in
+    subst (λ (es : List (ℕ × ℕ)). MayBeLent whole.colours domains es (natural_of l.1)) (sym (take-map in_naturals k (said domains)))
+    (may_be_lent whole.colours domains (take k (said domains)) l.1 free)
+
 pub passes_at : (whole : Whole) (domains : List LendingDomain) (k : ℕ)
     → k21_colour whole domains (take k (said domains)) (said_at domains k) ≡ None
     → Passes whole domains k (natural_of (said_at domains k).1)
@@ -60,15 +68,13 @@ passes_at whole domains k n =
     let first = refusal 21 (pos l.0) l.1 (pos 1) in
     let second = refusal 21 (pos l.0) l.1 (pos 2) in
     let rest : Option _ = if few then Some second else None in
-    let may = may_be_lent whole.colours domains earlier l.1 (if_first barred first rest n) in
     let enough : few ≡ false = if_first few second None (if_rest barred first rest n) in
     record {
-      lendable =
-          subst (λ (es : List (ℕ × ℕ)). MayBeLent whole.colours domains es c) (sym (take-map in_naturals k (said domains))) may;
+      lendable = may_at whole domains k (if_first barred first rest n);
       frames = ltb-false (frames_of whole c) 7 enough;
     }
 
-free_at : (whole : Whole) (domains : List LendingDomain) (k : ℕ)
+pub free_at : (whole : Whole) (domains : List LendingDomain) (k : ℕ)
     → MayBeLent whole.colours domains (take k (lent domains)) (natural_of (said_at domains k).1)
     → is_barred whole.colours domains (take k (said domains)) (said_at domains k).1 ≡ false
 free_at whole domains k may =
