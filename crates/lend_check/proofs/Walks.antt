@@ -16,10 +16,21 @@ pub lent_push : (d : ℕ) (os : List LendingDomain) (o : LendingDomain)
     → lent_from d (os ++ o ∷ []) ≡ lent_from d os ++ lent_by (d + length os) o.lend
 lent_push d [] o = let same : d ≡ d + 0 = omega arith in append-nil (lent_by d o.lend) ∙ ap (λ (n : ℕ). lent_by n o.lend) same
 lent_push d (p ∷ os) o =
-    let same : suc d + length os ≡ d + length (p ∷ os) = omega arith in
+    let same : d + 1 + length os ≡ d + length (p ∷ os) = omega arith in
     ap (λ ls. lent_by d p.lend ++ ls)
-    (lent_push (suc d) os o ∙ ap (λ (n : ℕ). lent_from (suc d) os ++ lent_by n o.lend) same)
-    ∙ sym (append_assoc (lent_by d p.lend) (lent_from (suc d) os) (lent_by (d + length (p ∷ os)) o.lend))
+    (lent_push (d + 1) os o ∙ ap (λ (n : ℕ). lent_from (d + 1) os ++ lent_by n o.lend) same)
+    ∙ sym (append_assoc (lent_by d p.lend) (lent_from (d + 1) os) (lent_by (d + length (p ∷ os)) o.lend))
+
+-- the first of them, and the rest
+pub halves : (b : ℕ) (os : List LendingDomain) (d : ℕ)
+    → lent_from b os ≡ lent_from b (take d os) ++ lent_from (b + d) (drop d os)
+halves b os zero = let same : b ≡ b + 0 = omega arith in ap (λ (n : ℕ). lent_from n os) same
+halves b [] (suc d) = refl
+halves b (o ∷ os) (suc d) =
+    let same : b + 1 + d ≡ b + suc d = omega arith in
+    ap (λ ls. lent_by b o.lend ++ ls)
+    (halves (b + 1) os d ∙ ap (λ (n : ℕ). lent_from (b + 1) (take d os) ++ lent_from n (drop d os)) same)
+    ∙ sym (append_assoc (lent_by b o.lend) (lent_from (b + 1) (take d os)) (lent_from (b + suc d) (drop d os)))
 
 -- ---- whether a colour is lent
 
@@ -30,9 +41,9 @@ any_by d (y ∷ ys) x = ap (λ b. is_same y x || b) (any_by d ys x)
 pub any_from : (d : ℕ) (os : List LendingDomain) (x : ℤ) → is_lent (lent_from d os) x ≡ list_any (λ o. names o.lend x) os
 any_from d [] x = refl
 any_from d (o ∷ os) x =
-    list_any-append (λ (l : ℕ × ℤ). is_same l.1 x) (lent_by d o.lend) (lent_from (suc d) os)
-    ∙ ap (λ b. b || is_lent (lent_from (suc d) os) x) (any_by d o.lend x)
-    ∙ ap (λ b. names o.lend x || b) (any_from (suc d) os x)
+    list_any-append (λ (l : ℕ × ℤ). is_same l.1 x) (lent_by d o.lend) (lent_from (d + 1) os)
+    ∙ ap (λ b. b || is_lent (lent_from (d + 1) os) x) (any_by d o.lend x)
+    ∙ ap (λ b. names o.lend x || b) (any_from (d + 1) os x)
 
 -- those of the domains before, and of the same
 pub any_before : (before : List (ℕ × ℤ)) (d : ℕ) (xs : List ℤ) (x : ℤ)
@@ -43,10 +54,10 @@ any_before before d xs x =
 -- ---- how many are lent
 
 pub count_from : (d : ℕ) (o : LendingDomain) (os : List LendingDomain)
-    → length (lent_from d (o ∷ os)) ≡ length o.lend + length (lent_from (suc d) os)
+    → length (lent_from d (o ∷ os)) ≡ length o.lend + length (lent_from (d + 1) os)
 count_from d o os =
-    length-append (lent_by d o.lend) (lent_from (suc d) os)
-    ∙ ap (λ (n : ℕ). n + length (lent_from (suc d) os)) (length-map o.lend (λ x. (d, x)))
+    length-append (lent_by d o.lend) (lent_from (d + 1) os)
+    ∙ ap (λ (n : ℕ). n + length (lent_from (d + 1) os)) (length-map o.lend (λ x. (d, x)))
 
 -- ---- a loop that goes through the domains, each seen by a model
 
@@ -56,11 +67,11 @@ pub said_more : {A : Type 0} (g : A → LendingDomain) (xs : List A) (d : ℕ) (
 said_more g xs d x e below is =
     let before = map g (take d xs) in
     let count : 0 + length before ≡ d = omega (arith, count_of g xs d below) in
-    ap said (map_more g xs d below ∙ ap (λ y. before ++ g y ∷ []) (sym is))
+    ap said (map_more g xs d e below ∙ ap (λ y. before ++ g y ∷ []) (sym is))
     ∙ lent_push 0 before (g x)
     ∙ ap (λ (n : ℕ). said before ++ lent_by n (g x).lend) count
 
-split : {A R : Type 0} (f : List (ℕ × ℤ) → ℕ × ℤ → Option R) (g : A → LendingDomain) (xs : List A) (d : ℕ) (x e : A)
+pub split : {A R : Type 0} (f : List (ℕ × ℤ) → ℕ × ℤ → Option R) (g : A → LendingDomain) (xs : List A) (d : ℕ) (x e : A)
     → d < length xs → x ≡ get_or xs d e
     → first_case f (said (map g (take d xs))) (lent_from d (map g (drop d xs)))
     ≡ or_else (first_case f (said (map g (take d xs))) (lent_by d (g x).lend))

@@ -1,6 +1,6 @@
 -- What an image says of lent colours: those that a domain sets aside, each for a child that it may make while it runs, and
 -- the entries that are set aside for that child.
-use Rattle.std.specs.Prelude.{ℕ, suc, ℤ, List, [], ◌∷◌, ◌++◌, map, slice_index_or, Option}
+use Rattle.std.specs.Prelude.{ℕ, ◌+◌, ℤ, List, [], ◌∷◌, ◌++◌, map, slice_index_or, Option}
 use Rattle.image_record.specs.Numbers.{natural_of}
 
 pub record LendingDomain : Type 0 where
@@ -35,7 +35,7 @@ lent_by d lend = map (λ x. (d, x)) lend
 -- where the first of these is domain d
 abbrev pub lent_from : ℕ → List LendingDomain → List (ℕ × ℤ)
 lent_from d [] = []
-lent_from d (o ∷ os) = lent_by d o.lend ++ lent_from (suc d) os
+lent_from d (o ∷ os) = lent_by d o.lend ++ lent_from (d + 1) os
 
 -- as the image says them
 abbrev pub said : List LendingDomain → List (ℕ × ℤ)
