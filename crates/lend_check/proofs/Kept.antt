@@ -162,7 +162,7 @@ module _ (whole : Whole) (domains : List LendingDomain) (pass : AllPass whole do
       let is = ap snd (get_or_from_slice_get (lent domains) j l (0, 0) first) ∙ same in
       true≢false (sym (named_before (lent domains) j k m.1 before (slice_get_within (lent domains) j l first) is) ∙ new)
 
-  each_once : (j k : ℕ) (l m : ℕ × ℕ) → slice_get (lent domains) j ≡ Some l → slice_get (lent domains) k ≡ Some m
+  pub each_once : (j k : ℕ) (l m : ℕ × ℕ) → slice_get (lent domains) j ≡ Some l → slice_get (lent domains) k ≡ Some m
       → l.1 ≡ m.1 → j ≡ k
   each_once j k l m first second same = either (cases_lt j k)
     where
@@ -174,7 +174,7 @@ module _ (whole : Whole) (domains : List LendingDomain) (pass : AllPass whole do
       either (inl before) = absurd (never_again j k l m first second same before)
       either (inr after) = among (cases_lt k j) after
 
-  each_lent : (k : ℕ) (l : ℕ × ℕ) → slice_get (lent domains) k ≡ Some l → IsLent whole domains l.1
+  pub each_lent : (k : ℕ) (l : ℕ × ℕ) → slice_get (lent domains) k ≡ Some l → IsLent whole domains l.1
   each_lent k l e =
       let p = pass k l (slice_get_within (lent domains) k l e) e in
       record { some = p.lendable.some; range = p.lendable.range; unowned = p.lendable.unowned; frames = p.frames }

@@ -4,3 +4,4 @@ pub mod Colours
 pub mod Kept
 pub mod Causes
 pub mod Numbers
+pub mod Counts

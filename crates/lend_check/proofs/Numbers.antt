@@ -1,10 +1,12 @@
 -- How parties are numbered.
-use Rattle.std.proofs.Common.{◌≡◌, ◌≢◌, ℕ, zero, suc, ◌+◌, ◌<◌, ◌≤◌, Bool, true, false, ◌&&◌, List, [], ◌∷◌, ◌++◌, length, map, take, drop, get_or, Option, Some, None, refl, sym, ap, ap₂, subst, ◌∙◌, arith, true≢false, eqb-true}
+use Rattle.std.proofs.Common.{◌≡◌, ◌≢◌, ℕ, zero, suc, ◌+◌, ◌<◌, ◌≤◌, Bool, true, false, ◌&&◌, List, [], ◌∷◌, ◌++◌, length, map, take, drop, get_or, Option, Some, None, refl, sym, ap, ap₂, subst, ◌∙◌, arith, true≢false, eqb-true, cond}
 use Rattle.std.specs.Prelude.{ℤ, pos, negsuc, nat_eq, nat_lt, slice_get, if◌then◌else◌, option_map}
+use Rattle.std.specs.List.{position, position_from}
 use Rattle.std.proofs.lemmas.Bool.{ltb-true}
 use Rattle.std.proofs.lemmas.Bool.Decides.{nat_tests}
-use Rattle.std.proofs.lemmas.List.{append_assoc, append-nil, take-map, drop-map, length-append, length-map, length-take, get_or-map, get_or_append_left, get_or-append-add}
+use Rattle.std.proofs.lemmas.List.{append_assoc, append-nil, take-map, drop-map, drop_more, length-append, length-map, length-take, get_or-map, get_or_append_left, get_or-append-add}
 use Rattle.std.proofs.lemmas.Option.{slice_get_within}
+use Rattle.std.proofs.lemmas.Iterator.Adapters.{position_from-zero}
 use Rattle.frame_colours.specs.Colours.{Whole}
 use Rattle.image_record.specs.Numbers.{natural_of, is_same, names}
 use Rattle.image_record.specs.Cases.{or_else, first_case, first_in}
@@ -362,3 +364,46 @@ pub not_this : (d : ℕ) (z y : ℤ) (earlier : List (ℕ × ℤ)) → is_same y
 not_this d z y earlier other =
     let itself : nat_eq d d ≡ true = grind (arith, nat_tests) in
     rw (itself, other) refl
+
+place_from : (d : ℕ) (z : ℤ) (earlier : List (ℕ × ℤ)) (xs : List ℤ)
+    → position_from (λ y. is_same y z) (length earlier) xs ≡ first_case (if_child (d, z)) earlier (lent_by d xs)
+place_from d z earlier [] = refl
+place_from d z earlier (y ∷ ys) = by_case (is_same y z) refl (place_from d z (earlier ++ (d, y) ∷ []) ys)
+  where
+    next : List (ℕ × ℤ)
+    next = earlier ++ (d, y) ∷ []
+
+    count : length earlier + 1 ≡ length next
+    count = sym (length-append earlier ((d, y) ∷ []))
+
+    by_case : (b : Bool) → is_same y z ≡ b
+        → position_from (λ x. is_same x z) (length next) ys ≡ first_case (if_child (d, z)) next (lent_by d ys)
+        → cond b (Some (length earlier)) (position_from (λ x. is_same x z) (length earlier + 1) ys)
+        ≡ or_else (if_child (d, z) earlier (d, y)) (first_case (if_child (d, z)) next (lent_by d ys))
+    by_case true same rest = sym (ap (λ o. or_else o (first_case (if_child (d, z)) next (lent_by d ys))) (this_one d (length earlier) z y earlier same refl))
+    by_case false other rest =
+        ap (λ (n : ℕ). position_from (λ x. is_same x z) n ys) count ∙ rest
+        ∙ sym (ap (λ o. or_else o (first_case (if_child (d, z)) next (lent_by d ys))) (not_this d z y earlier other))
+
+-- the place of a colour in the list of domain d
+pub place_in_list : (d : ℕ) (z : ℤ) (xs : List ℤ)
+    → first_in (if_child (d, z)) (lent_by d xs) ≡ position (λ y. is_same y z) xs
+place_in_list d z xs = sym (position_from-zero (λ y. is_same y z) xs ∙ place_from d z [] xs)
+
+-- ---- sums of the code
+
+-- what is lent before a domain, and in its list up to a place, is less than all that is lent
+pub less_than_all : {A : Type 0} (g : A → LendingDomain) (xs : List A) (d : ℕ) (x e : A) → d < length xs
+    → x ≡ get_or xs d e
+    → length (said (map g (take d xs))) + length (g x).lend ≤ length (said (map g xs))
+less_than_all g xs d x e below is =
+    let before = said (map g (take d xs)) in
+    let own = lent_by d (g x).lend in
+    let rest = lent_from (d + 1) (map g (drop (d + 1) xs)) in
+    let all : length (said (map g xs)) ≡ length before + (length own + length rest) =
+    ap length (halves_of g xs d)
+    ∙ length-append before (lent_from d (map g (drop d xs)))
+    ∙ ap (λ (n : ℕ). length before + n)
+    (ap (λ ys. length (lent_from d (map g ys))) (drop_more xs d e below ∙ ap (λ y. y ∷ drop (d + 1) xs) (sym is))
+    ∙ length-append own rest) in
+    omega (arith, all, length-map (g x).lend (pair d))

@@ -1,7 +1,8 @@
 // The numbers of parties.
 ghost use Rattle.std.specs.Prelude.{◌≡◌, ◌<◌, ◌^◌, length, map, IfSome};
-ghost use Rattle.image_record.specs.Cases.{first_in};
-ghost use Rattle.lend_check.specs.Lending.{said, lent_by};
+ghost use Rattle.std.specs.List.{position};
+ghost use Rattle.image_record.specs.Numbers.{is_same};
+ghost use Rattle.lend_check.specs.Lending.{said};
 ghost use Rattle.lend_check.specs.Parties as spec;
 ghost use Rattle.lend_check.specs.Models.{domain_model};
 
@@ -21,7 +22,7 @@ pub(crate) fn lent_count(domains: &[LendingDomain]) -> usize
 
 /// The place of a colour in a domain's list.
 fn place_in(lend: &[i64], colour: i64) -> Option<usize>
-    ensures value { (d : ℕ) → result ≡ first_in (spec.if_child (d, colour)) (lent_by d lend.now) }
+    ensures value { result ≡ position (λ other. is_same other colour) lend.now }
     ensures within { IfSome result (λ k. k < length lend.now) }
 {
     lend.iter().position(|&other| other == colour)

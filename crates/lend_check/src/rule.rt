@@ -31,7 +31,7 @@ fn is_own(domains: &[LendingDomain], colour: i64) -> bool
     false
 }
 
-/// Whether one of these domains, which are the first ones, lends the colour.
+/// Whether one of these first domains lends the colour.
 fn is_lent(domains: &[LendingDomain], colour: i64) -> bool
     ensures value { result ≡ spec.is_lent (said (map domain_model domains.now)) colour }
 {
@@ -43,6 +43,16 @@ fn is_lent(domains: &[LendingDomain], colour: i64) -> bool
     false
 }
 
+/// Whether a domain before `d` lends the colour, or `d` among those that come earlier.
+#[tactic(auto, using(crate::proofs::Walks::any_before))]
+fn is_lent_before(domains: &[LendingDomain], d: usize, earlier: &[i64], colour: i64) -> bool
+    requires domain { d < length domains.now }
+    ensures value { result ≡ spec.is_lent
+        (said (map domain_model (take d domains.now)) ++ lent_by d earlier.now) colour }
+{
+    is_lent(&domains[..d], colour) || names(earlier, colour)
+}
+
 fn is_barred(colours: u32, domains: &[LendingDomain], d: usize, earlier: &[i64], colour: i64) -> bool
     requires some { 0 < colours }
     requires few { colours ≤ 64 }
@@ -52,8 +62,7 @@ fn is_barred(colours: u32, domains: &[LendingDomain], d: usize, earlier: &[i64],
 {
     outside(1, i64::from(colours - 1), colour)
         || is_own(domains, colour)
-        || is_lent(&domains[..d], colour)
-        || names(earlier, colour)
+        || is_lent_before(domains, d, earlier, colour)
 }
 
 /// The cases of a colour that domain `d` lends after others.
