@@ -3,3 +3,4 @@ pub mod Parties
 pub mod Rule
 pub mod Models
 pub mod Laws
+pub mod Example

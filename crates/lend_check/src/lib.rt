@@ -12,5 +12,5 @@ mod parties;
 mod rule;
 
 pub use lending::{Lending, LendingDomain, LendingEntry};
-pub use parties::child_number;
+pub use parties::{child_number, entry_number};
 pub use rule::k21;

@@ -4,9 +4,11 @@ ghost use Rattle.std.specs.List.{position};
 ghost use Rattle.image_record.specs.Numbers.{is_same};
 ghost use Rattle.lend_check.specs.Lending.{said};
 ghost use Rattle.lend_check.specs.Parties as spec;
-ghost use Rattle.lend_check.specs.Models.{domain_model};
+ghost use Rattle.lend_check.specs.Rule.{IsOfDomain};
+ghost use Rattle.lend_check.specs.Models.{domain_model, entry_model};
 
-use crate::lending::LendingDomain;
+use crate::lending::{LendingDomain, LendingEntry};
+use image_record::natural_of;
 
 /// How many colours these domains lend.
 pub(crate) fn lent_count(domains: &[LendingDomain]) -> usize
@@ -36,4 +38,19 @@ pub fn child_number(domains: &[LendingDomain], domain: usize, colour: i64) -> Op
 {
     let place = place_in(domains.get(domain)?.lend.as_slice(), colour)?;
     Some(domains.len() + lent_count(&domains[..domain]) + place)
+}
+
+/// The number of the party whose entry it is, which is its domain or a child of this
+/// one. None where the domain doesn't lend the child's colour.
+pub fn entry_number(domains: &[LendingDomain], entry: &LendingEntry) -> Option<usize>
+    requires few { spec.parties (map domain_model domains.now) < 2 ^ 63 }
+    requires domain { IsOfDomain (length domains.now) (entry_model entry.now) }
+    ensures value { result
+        ≡ spec.number_of (map domain_model domains.now) (spec.party_of (entry_model entry.now)) }
+{
+    let domain = natural_of(entry.domain) as usize;
+    match entry.lend {
+        None => Some(domain),
+        Some(colour) => child_number(domains, domain, colour),
+    }
 }

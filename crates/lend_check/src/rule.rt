@@ -53,7 +53,13 @@ fn is_lent_before(domains: &[LendingDomain], d: usize, earlier: &[i64], colour: 
     is_lent(&domains[..d], colour) || names(earlier, colour)
 }
 
-fn is_barred(colours: u32, domains: &[LendingDomain], d: usize, earlier: &[i64], colour: i64) -> bool
+fn is_barred(
+    colours: u32,
+    domains: &[LendingDomain],
+    d: usize,
+    earlier: &[i64],
+    colour: i64,
+) -> bool
     requires some { 0 < colours }
     requires few { colours ≤ 64 }
     requires domain { d < length domains.now }
