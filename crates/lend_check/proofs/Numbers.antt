@@ -407,3 +407,19 @@ less_than_all g xs d x e below is =
     (ap (λ ys. length (lent_from d (map g ys))) (drop_more xs d e below ∙ ap (λ y. y ∷ drop (d + 1) xs) (sym is))
     ∙ length-append own rest) in
     omega (arith, all, length-map (g x).lend (pair d))
+
+-- ---- whose an entry is
+
+pub own_entry : (domains : List LendingDomain) (e : LendingEntry) (n : ℕ) → n ≡ natural_of e.domain
+    → natural_of e.domain < length domains → e.lend ≡ None
+    → Some n ≡ number_of domains (party_of e)
+unfolding number_of
+own_entry domains e n is l none =
+    let test : nat_lt (natural_of e.domain) (length domains) ≡ true = grind (arith, nat_tests, l) in
+    rw (none, test) (ap Some is)
+
+pub childs_entry : (domains : List LendingDomain) (e : LendingEntry) (d : ℕ) (x : ℤ) → d ≡ natural_of e.domain
+    → e.lend ≡ Some x
+    → child_number domains d x ≡ number_of domains (party_of e)
+unfolding number_of
+childs_entry domains e d x is some = rw some (ap (λ (n : ℕ). child_number domains n x) is)
