@@ -9,7 +9,7 @@ use Rattle.frame_colours.specs.Colours.{Whole}
 use Rattle.image_record.specs.declared.refusal.Refusal.{Refusal}
 use Rattle.image_record.specs.Numbers.{natural_of, names}
 use Rattle.image_record.specs.Cases.{or_else, first_in, refusal}
-use Rattle.lend_check.specs.Lending.{LendingDomain, LendingEntry, Lending, domain_at, said, lent, in_naturals}
+use Rattle.lend_check.specs.Lending.{LendingDomain, LendingEntry, Lending, lend_of, said, lent, in_naturals}
 use Rattle.lend_check.specs.Parties.{parties}
 use Rattle.lend_check.specs.Rule.{is_barred, frames_of, most_parties, k21_colour, k21_lend, k21_entry, k21_parties, k21}
 use Rattle.lend_check.specs.Laws.{MayBeLent, AllPass, IsBarredFirst, IsSmallFirst, IsForeignFirst, AreTooMany, Cause, Barred, Small, Foreign, Many, CauseLaw}
@@ -92,7 +92,7 @@ unfolding k21_entry
 entry_case whole i r colours first =
     let e = first.place in
     let entry = get_or i.schedule e no_entry in
-    let lend = (domain_at i.domains (natural_of entry.domain)).lend in
+    let lend = lend_of i.domains entry.domain in
     let found = foreign_if (length (take e i.schedule)) lend entry.lend r first.here in
     let count : length (take e i.schedule) ≡ e = omega (arith, length-take e i.schedule, first.within) in
     let x = found.0 in
@@ -203,9 +203,9 @@ entry_told whole i e x f =
     let within = slice_get_within i.schedule e f.entry f.there in
     let is = get_or_from_slice_get i.schedule e f.entry no_entry f.there in
     let count : length (take e i.schedule) ≡ e = omega (arith, length-take e i.schedule, within) in
-    let told : k21_lend (length (take e i.schedule)) (domain_at i.domains (natural_of f.entry.domain)).lend f.entry.lend
+    let told : k21_lend (length (take e i.schedule)) (lend_of i.domains f.entry.domain) f.entry.lend
     ≡ Some (refusal 21 (pos e) x (pos 3)) = rw (f.lend, f.foreign, count) refl in
-    let P : LendingEntry → Type 0 = λ o. k21_lend (length (take e i.schedule)) (domain_at i.domains (natural_of o.domain)).lend o.lend
+    let P : LendingEntry → Type 0 = λ o. k21_lend (length (take e i.schedule)) (lend_of i.domains o.domain) o.lend
     ≡ Some (refusal 21 (pos e) x (pos 3)) in
     let first =
     is_first (k21_entry i.domains) i.schedule no_entry (refusal 21 (pos e) x (pos 3)) e within

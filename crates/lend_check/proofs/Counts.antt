@@ -1,22 +1,21 @@
 -- How many colours are lent where the rule lets them through, and the steps of the code over domains and entries.
 use Rattle.std.proofs.Common.{◌≡◌, ℕ, ◌+◌, ◌<◌, ◌≤◌, ◌^◌, Bool, true, false, List, length, map, take, get_or, Option, None, Some, refl, sym, ap, subst, ◌∙◌, arith, eqb, eqb-true}
 use Rattle.std.specs.Prelude.{slice_get}
-use Rattle.std.specs.List.{All, IsDistinct, list_any}
-use Rattle.std.proofs.lemmas.List.{length-map, get_or-map, get_or_default}
+use Rattle.std.specs.List.{IsDistinct, list_any}
+use Rattle.std.proofs.lemmas.List.{length-map, get_or-map}
 use Rattle.std.proofs.lemmas.List.Folds.{Any-from_list_any}
 use Rattle.std.proofs.lemmas.Map.Keys.{IsDistinct-from_apart}
 use Rattle.std.proofs.lemmas.Map.Steps.{length-le_from_distinct_below}
 use Rattle.std.proofs.lemmas.Option.{slice_get-get_or}
 use Rattle.frame_colours.specs.Colours.{Whole}
 use Rattle.image_record.specs.declared.refusal.Refusal.{Refusal}
-use Rattle.image_record.specs.Numbers.{natural_of}
 use Rattle.image_record.specs.Cases.{first_in}
 use Rattle.image_record.proofs.Loops.{count_of}
 use Rattle.lend_check.specs.declared.lending.LendingEntry.{LendingEntry}
-use Rattle.lend_check.specs.Lending.{LendingDomain, in_naturals, said, lent, domain_at}
+use Rattle.lend_check.specs.Lending.{LendingDomain, in_naturals, said, lent, lend_of}
 use Rattle.lend_check.specs.Parties.{parties}
 use Rattle.lend_check.specs.Models.{entry_model}
-use Rattle.lend_check.specs.Rule.{IsOfDomain, k21_colour, k21_lend, k21_entry}
+use Rattle.lend_check.specs.Rule.{k21_colour, k21_lend, k21_entry}
 use Rattle.lend_check.specs.Laws.{AllPass}
 use Rattle.lend_check.proofs.Kept.{colours_pass, each_once, each_lent}
 
@@ -78,16 +77,9 @@ few whole domains none colours many =
 
 -- ---- an entry of the code
 
-pub of_domain : (many : ℕ) (xs : List LendingEntry) (k : ℕ) (d : LendingEntry) → k < length xs
-    → All (IsOfDomain many) (map entry_model xs)
-    → IsOfDomain many (entry_model (get_or xs k d))
-of_domain many xs k d l all =
-    subst (IsOfDomain many) (get_or-map entry_model xs k d (entry_model d) l)
-    (all k (entry_model d) (omega (arith, l, length-map xs entry_model)))
-
 pub entry_at : (domains : List LendingDomain) (xs : List LendingEntry) (k : ℕ) (x : LendingEntry) (o : Option Refusal)
-    → k < length xs → k21_lend k (domain_at domains (natural_of x.domain)).lend x.lend ≡ o
+    → k < length xs → k21_lend k (lend_of domains x.domain) x.lend ≡ o
     → k21_entry domains (map entry_model (take k xs)) (entry_model x) ≡ o
 unfolding k21_entry
 entry_at domains xs k x o below is =
-    ap (λ (n : ℕ). k21_lend n (domain_at domains (natural_of x.domain)).lend x.lend) (count_of entry_model xs k below) ∙ is
+    ap (λ (n : ℕ). k21_lend n (lend_of domains x.domain) x.lend) (count_of entry_model xs k below) ∙ is

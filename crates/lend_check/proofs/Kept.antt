@@ -10,7 +10,7 @@ use Rattle.frame_colours.specs.Colours.{Whole, has}
 use Rattle.image_record.specs.Numbers.{natural_of, names}
 use Rattle.image_record.specs.Cases.{or_else, first_in, refusal}
 use Rattle.image_record.proofs.FirstCases.{or_first, or_rest, if_first, if_rest, first_in_none}
-use Rattle.lend_check.specs.Lending.{LendingDomain, LendingEntry, Lending, domain_at, in_naturals, said, lent}
+use Rattle.lend_check.specs.Lending.{LendingDomain, LendingEntry, Lending, lend_of, in_naturals, said, lent}
 use Rattle.lend_check.specs.Parties.{parties}
 use Rattle.lend_check.specs.Rule.{is_barred, frames_of, most_parties, k21_colour, k21_lend, k21_entry, k21_parties, k21, IsLent, AreLent}
 use Rattle.lend_check.specs.Laws.{MayBeLent, Passes, AllPass, IsLender, AcceptedLaw}
@@ -224,12 +224,12 @@ lend_none entry lend (Some y) h = rw (h y refl) refl
 pub is_lender : (domains : List LendingDomain) (earlier : List LendingEntry) (e : LendingEntry)
     → k21_entry domains earlier e ≡ None → IsLender domains e
 unfolding k21_entry
-is_lender domains earlier e n = lender_if (length earlier) (domain_at domains (natural_of e.domain)).lend e.lend n
+is_lender domains earlier e n = lender_if (length earlier) (lend_of domains e.domain) e.lend n
 
 pub entry_none : (domains : List LendingDomain) (earlier : List LendingEntry) (e : LendingEntry) → IsLender domains e
     → k21_entry domains earlier e ≡ None
 unfolding k21_entry
-entry_none domains earlier e h = lend_none (length earlier) (domain_at domains (natural_of e.domain)).lend e.lend h
+entry_none domains earlier e h = lend_none (length earlier) (lend_of domains e.domain) e.lend h
 
 pub no_entry : LendingEntry
 no_entry = record { domain = pos 0; lend = None }

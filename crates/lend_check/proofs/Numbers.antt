@@ -1,22 +1,22 @@
 -- How parties are numbered.
-use Rattle.std.proofs.Common.{◌≡◌, ◌≢◌, ℕ, zero, suc, ◌+◌, ◌<◌, ◌≤◌, Bool, true, false, ◌&&◌, List, [], ◌∷◌, ◌++◌, length, map, take, drop, get_or, Option, Some, None, refl, sym, ap, ap₂, subst, ◌∙◌, arith, true≢false, eqb-true, cond}
+use Rattle.std.proofs.Common.{◌≡◌, ◌≢◌, ℕ, zero, suc, ◌+◌, ◌<◌, ◌≤◌, Bool, true, false, ◌&&◌, List, [], ◌∷◌, ◌++◌, length, map, take, drop, get_or, Option, Some, None, refl, sym, ap, ap₂, subst, ◌∙◌, arith, ◌-◌, ◌⊎◌, inl, inr, true≢false, eqb-true, cond}
 use Rattle.std.specs.Prelude.{ℤ, pos, negsuc, nat_eq, nat_lt, slice_get, if◌then◌else◌, option_map}
 use Rattle.std.specs.List.{position, position_from}
-use Rattle.std.proofs.lemmas.Bool.{ltb-true}
+use Rattle.std.proofs.lemmas.Bool.{cases_lt, ltb-true}
 use Rattle.std.proofs.lemmas.Bool.Decides.{nat_tests}
 use Rattle.std.proofs.lemmas.List.{append_assoc, append-nil, take-map, drop-map, drop_more, length-append, length-map, length-take, get_or-map, get_or_append_left, get_or-append-add}
 use Rattle.std.proofs.lemmas.Option.{slice_get_within}
 use Rattle.std.proofs.lemmas.Iterator.Adapters.{position_from-zero}
 use Rattle.frame_colours.specs.Colours.{Whole}
-use Rattle.image_record.specs.Numbers.{natural_of, is_same, names}
+use Rattle.image_record.specs.Numbers.{IsNatural, natural_of, is_same, names}
 use Rattle.image_record.specs.Cases.{or_else, first_case, first_in}
 use Rattle.image_record.proofs.FirstCases.{first_in_none}
 use Rattle.image_record.proofs.Listed.{stands}
 use Rattle.image_record.proofs.Loops.{count_of}
-use Rattle.lend_check.specs.Lending.{LendingDomain, LendingEntry, Lending, domain_at, lent_by, lent_from, said, lent, in_naturals}
-use Rattle.lend_check.specs.Parties.{is_child, if_child, child_number, Party, Domain, Child, number_of, party_of, party_by}
+use Rattle.lend_check.specs.Lending.{LendingDomain, LendingEntry, Lending, domain_at, lend_of, lent_by, lent_from, said, lent, in_naturals}
+use Rattle.lend_check.specs.Parties.{parties, is_child, if_child, child_number, Party, Domain, Child, number_of, party_of, party_by}
 use Rattle.lend_check.specs.Rule.{most_parties, AreLent}
-use Rattle.lend_check.specs.Laws.{ChildLaw, DistinctLaw, LimitLaw, EntryLaw}
+use Rattle.lend_check.specs.Laws.{ChildLaw, DistinctLaw, CountLaw, LimitLaw, EachLaw, EntryLaw}
 use Rattle.lend_check.proofs.Firsts.{First, first_of, is_first, case_append}
 use Rattle.lend_check.proofs.Walks.{halves, split}
 use Rattle.lend_check.proofs.Kept.{no_colour, said_at, At, at, get_lent}
@@ -158,13 +158,34 @@ distinct domains (Child d x) (Child e y) n p q =
     let same : (d, x) ≡ (e, y) = sym a.is ∙ ap (said_at domains) place ∙ b.is in
     ap (λ (l : ℕ × ℤ). Child l.0 l.1) same
 
+pub counted : CountLaw
+counted domains (Domain d) n e =
+    let p = domain_number domains d n e in
+    omega (arith, p.0, p.1)
+counted domains (Child d x) n e =
+    let p = child_numbered domains d x n e in
+    omega (arith, p.within, p.same)
+
 pub below : LimitLaw
-below whole i (Domain d) n a e =
-    let p = domain_number i.domains d n e in
-    omega (arith, p.0, p.1, a.few)
-below whole i (Child d x) n a e =
-    let p = child_numbered i.domains d x n e in
-    omega (arith, p.within, p.same, a.few, length-map (said i.domains) in_naturals)
+below whole i p n a e =
+    let l = counted i.domains p n e in
+    omega (arith, l, a.few, length-map (said i.domains) in_naturals)
+
+pub each_number : EachLaw
+unfolding number_of
+each_number whole i n a l = either (cases_lt n (length i.domains))
+  where
+    either : (n < length i.domains) ⊎ (length i.domains ≤ n) → (p : Party) × (number_of i.domains p ≡ Some n)
+    either (inl m) =
+        let test : nat_lt n (length i.domains) ≡ true = grind (arith, nat_tests, m) in
+        (Domain n, rw test refl)
+    either (inr past) =
+        let k = n - length i.domains in
+        let within : k < length (said i.domains) = omega (arith, past, l) in
+        let child = in_naturals (said_at i.domains k) in
+        let sum : length i.domains + k ≡ n = omega (arith, past) in
+        let number = child_is whole i k child.0 child.1 a (get_lent i.domains k within) in
+        (Child child.0 (pos child.1), number ∙ ap Some sum)
 
 -- ---- where the colours of a domain stand
 
@@ -229,14 +250,22 @@ has_number domains d x l named = by_case (first_in (if_child (d, x)) (said domai
 
 pub entry_number : EntryLaw
 unfolding number_of
-entry_number whole i e entry a there l = by_lend entry.lend refl
+entry_number whole i e entry a there of = by_lend entry.lend refl
   where
     d : ℕ
     d = natural_of entry.domain
 
+    l : d < length i.domains
+    l = of.there
+
+    lends : (y : ℤ) → IsNatural y → (x : ℤ) → names (lend_of i.domains y) x ≡ true
+        → names (domain_at i.domains (natural_of y)).lend x ≡ true
+    lends (pos n) natural x is = is
+    lends (negsuc n) natural x is = absurd natural
+
     by_lend : (o : Option ℤ) → entry.lend ≡ o → (n : ℕ) × (number_of i.domains (party_by d o) ≡ Some n)
     by_lend None is = let test : nat_lt d (length i.domains) ≡ true = grind (arith, nat_tests, l) in (d, rw test refl)
-    by_lend (Some x) is = has_number i.domains d x l (a.entries e entry x there is)
+    by_lend (Some x) is = has_number i.domains d x l (lends entry.domain of.natural x (a.entries e entry x there is))
 
 -- ---- in the code: the place of a child by those of the domains before, and its place in the domain's own list
 

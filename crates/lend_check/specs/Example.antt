@@ -97,6 +97,15 @@ pub another_lends : told (pos 3 ∷ []) [] (aside (pos 0) (pos 3) ∷ aside (pos
 unfolding k21 k21_colour k21_entry pool
 another_lends = refl
 
+pub nobody_there : told (pos 3 ∷ []) [] (aside (pos 2) (pos 3) ∷ []) ≡ refused 0 (pos 3) 3
+unfolding k21 k21_colour k21_entry pool
+nobody_there = refl
+
+-- the first of two
+pub first_entry_first : told [] [] (aside (pos 1) (negsuc 0) ∷ aside (pos 0) (pos 2) ∷ []) ≡ refused 0 (negsuc 0) 3
+unfolding k21 k21_entry
+first_entry_first = refl
+
 -- ---- too many parties: a domain of colour 1 lends so many from 2 on, of 224 frames of 32 colours, or of 448 of 64
 
 abbrev pub lends : Whole → ℕ → ℕ → Option Refusal

@@ -4,9 +4,9 @@ use Rattle.frame_colours.specs.Colours.{Whole, has}
 use Rattle.image_record.specs.declared.refusal.Refusal.{Refusal}
 use Rattle.image_record.specs.Numbers.{natural_of, names}
 use Rattle.image_record.specs.Cases.{refusal}
-use Rattle.lend_check.specs.Lending.{LendingDomain, LendingEntry, Lending, domain_at, own_colours, said, lent}
-use Rattle.lend_check.specs.Parties.{Party, Child, number_of, party_of}
-use Rattle.lend_check.specs.Rule.{frames_of, most_parties, k21, AreLent}
+use Rattle.lend_check.specs.Lending.{LendingDomain, LendingEntry, Lending, lend_of, own_colours, said, lent}
+use Rattle.lend_check.specs.Parties.{parties, Party, Child, number_of, party_of}
+use Rattle.lend_check.specs.Rule.{IsOfDomain, frames_of, most_parties, k21, AreLent}
 
 abbrev pub AcceptedLaw : Type 0
 AcceptedLaw = (whole : Whole) (i : Lending) → (k21 whole i ≡ None) ↔ AreLent whole i
@@ -30,7 +30,7 @@ AllPass whole domains k = (j : ℕ) (l : ℕ × ℕ) → j < k → slice_get (le
 
 -- the entry is its domain's own, or set aside for a colour that this one lends
 abbrev pub IsLender : List LendingDomain → LendingEntry → Type 0
-IsLender domains e = (x : ℤ) → e.lend ≡ Some x → names (domain_at domains (natural_of e.domain)).lend x ≡ true
+IsLender domains e = (x : ℤ) → e.lend ≡ Some x → names (lend_of domains e.domain) x ≡ true
 
 -- case 1: the first place of which some case is broken may not be lent
 pub record IsBarredFirst (whole : Whole) (i : Lending) (d : ℕ) (x : ℤ) : Type 0 where
@@ -54,7 +54,7 @@ pub record IsForeignFirst (whole : Whole) (i : Lending) (e : ℕ) (x : ℤ) : Ty
   pub there : slice_get i.schedule e ≡ Some entry
   pub before : (j : ℕ) (other : LendingEntry) → j < e → slice_get i.schedule j ≡ Some other → IsLender i.domains other
   pub lend : entry.lend ≡ Some x
-  pub foreign : names (domain_at i.domains (natural_of entry.domain)).lend x ≡ false
+  pub foreign : names (lend_of i.domains entry.domain) x ≡ false
 
 -- case 4: all colours and entries pass, and parties are too many
 pub record AreTooMany (whole : Whole) (i : Lending) : Type 0 where
@@ -83,13 +83,22 @@ abbrev pub DistinctLaw : Type 0
 DistinctLaw = (domains : List LendingDomain) (p q : Party) (n : ℕ) → number_of domains p ≡ Some n
     → number_of domains q ≡ Some n → p ≡ q
 
--- each number below the limit
+-- each number is below how many there are
+abbrev pub CountLaw : Type 0
+CountLaw = (domains : List LendingDomain) (p : Party) (n : ℕ) → number_of domains p ≡ Some n → n < parties domains
+
+-- and below the limit
 abbrev pub LimitLaw : Type 0
 LimitLaw = (whole : Whole) (i : Lending) (p : Party) (n : ℕ) → AreLent whole i → number_of i.domains p ≡ Some n
     → n < most_parties i.version
 
+-- and each below how many there are is some party's
+abbrev pub EachLaw : Type 0
+EachLaw = (whole : Whole) (i : Lending) (n : ℕ) → AreLent whole i → n < parties i.domains
+    → (p : Party) × (number_of i.domains p ≡ Some n)
+
 -- whose an entry is has a number, where its domain is there
 abbrev pub EntryLaw : Type 0
 EntryLaw = (whole : Whole) (i : Lending) (e : ℕ) (entry : LendingEntry) → AreLent whole i
-    → slice_get i.schedule e ≡ Some entry → natural_of entry.domain < length i.domains
+    → slice_get i.schedule e ≡ Some entry → IsOfDomain (length i.domains) entry
     → (n : ℕ) × (number_of i.domains (party_of entry) ≡ Some n)

@@ -1,6 +1,6 @@
 -- What an image says of lent colours: those that a domain sets aside, each for a child that it may make while it runs, and
 -- the entries that are set aside for that child.
-use Rattle.std.specs.Prelude.{ℕ, ◌+◌, ℤ, List, [], ◌∷◌, ◌++◌, map, slice_index_or, Option}
+use Rattle.std.specs.Prelude.{ℕ, ◌+◌, ℤ, pos, negsuc, List, [], ◌∷◌, ◌++◌, map, slice_index_or, Option}
 use Rattle.image_record.specs.Numbers.{natural_of}
 
 pub record LendingDomain : Type 0 where
@@ -22,6 +22,11 @@ no_domain = record { colours = []; lend = [] }
 -- domain d; past the last one it has and lends nothing
 abbrev pub domain_at : List LendingDomain → ℕ → LendingDomain
 domain_at domains d = slice_index_or domains d no_domain
+
+-- the colours that a domain lends, by its number as the image says it
+abbrev pub lend_of : List LendingDomain → ℤ → List ℤ
+lend_of domains (pos d) = (domain_at domains d).lend
+lend_of domains (negsuc n) = []
 
 -- in natural numbers
 abbrev pub own_colours : List LendingDomain → ℕ → List ℕ

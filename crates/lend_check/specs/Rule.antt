@@ -7,7 +7,7 @@ use Rattle.frame_colours.specs.Colours.{Whole, share_of, pool, has}
 use Rattle.image_record.specs.declared.refusal.Refusal.{Refusal}
 use Rattle.image_record.specs.Numbers.{IsNatural, natural_of, is_same, names}
 use Rattle.image_record.specs.Cases.{or_else, first_in, refusal, outside}
-use Rattle.lend_check.specs.Lending.{LendingDomain, LendingEntry, Lending, domain_at, own_colours, said, lent}
+use Rattle.lend_check.specs.Lending.{LendingDomain, LendingEntry, Lending, lend_of, own_colours, said, lent}
 use Rattle.lend_check.specs.Parties.{parties}
 
 -- the domain, the entry or 0, what stands there, and the case
@@ -47,11 +47,11 @@ abbrev pub k21_lend : ℕ → List ℤ → Option ℤ → Option Refusal
 k21_lend entry lend None = None
 k21_lend entry lend (Some x) = if names lend x then None else k21_refusal entry x 3
 
--- 3: its domain doesn't lend the colour. (That there is this domain is tested before, by the rule of the schedule.)
+-- 3: its domain doesn't lend the colour
 unfoldable pub k21_entry : List LendingDomain → List LendingEntry → LendingEntry → Option Refusal
-k21_entry domains earlier e = k21_lend (length earlier) (domain_at domains (natural_of e.domain)).lend e.lend
+k21_entry domains earlier e = k21_lend (length earlier) (lend_of domains e.domain) e.lend
 
--- that the rule of the schedule leaves: the entry's domain is one of so many
+-- its domain is one of so many, as the rule of the schedule tests before
 pub record IsOfDomain (many : ℕ) (e : LendingEntry) : Type 0 where
   pub natural : IsNatural e.domain
   pub there : natural_of e.domain < many
@@ -86,5 +86,5 @@ pub record AreLent (whole : Whole) (i : Lending) : Type 0 where
   pub once : (j k : ℕ) (l m : ℕ × ℕ) → slice_get (lent i.domains) j ≡ Some l → slice_get (lent i.domains) k ≡ Some m
       → l.1 ≡ m.1 → j ≡ k
   pub entries : (e : ℕ) (entry : LendingEntry) (x : ℤ) → slice_get i.schedule e ≡ Some entry → entry.lend ≡ Some x
-      → names (domain_at i.domains (natural_of entry.domain)).lend x ≡ true
+      → names (lend_of i.domains entry.domain) x ≡ true
   pub few : length i.domains + length (lent i.domains) ≤ most_parties i.version

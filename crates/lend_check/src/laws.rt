@@ -1,5 +1,5 @@
 //! Laws of the definitions.
-ghost use Rattle.lend_check.specs.Laws.{AcceptedLaw, CauseLaw, ChildLaw, DistinctLaw, LimitLaw, EntryLaw};
+ghost use Rattle.lend_check.specs.Laws.{AcceptedLaw, CauseLaw, ChildLaw, DistinctLaw, CountLaw, LimitLaw, EachLaw, EntryLaw};
 
 /// The rule lets through exactly the images of which each lent colour is a colour of
 /// the memory, nobody's own, lent once and of seven frames; each entry that is set
@@ -15,10 +15,13 @@ pub fn causes()
 {}
 
 /// The child of a lent colour has the number of domains and the colour's place. No
-/// two parties have one number, each is below the limit, and an entry's has one.
+/// two parties have one number; the numbers are those below how many there are, which
+/// is within the limit; and the party whose an entry is has one.
 pub fn parties()
     ensures child { ChildLaw }
     ensures distinct { DistinctLaw }
+    ensures count { CountLaw }
     ensures limit { LimitLaw }
+    ensures each { EachLaw }
     ensures entry { EntryLaw }
 {}

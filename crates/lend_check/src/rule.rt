@@ -1,11 +1,10 @@
 // K21, the rule of lent colours.
 ghost use Rattle.std.specs.Prelude.{◌≡◌, ◌<◌, ◌≤◌, ◌^◌, ◌++◌, length, map, take};
-ghost use Rattle.std.specs.List.{All, list_any};
 ghost use Rattle.frame_colours.specs.Colours.{whole_of};
-ghost use Rattle.image_record.specs.Numbers.{IsNatural, natural_of as spec_natural_of, names as spec_names};
+ghost use Rattle.image_record.specs.Numbers.{names as spec_names};
 ghost use Rattle.image_record.specs.Cases.{first_in, first_case};
 ghost use Rattle.image_record.specs.Outcomes.{IsVerdict};
-ghost use Rattle.lend_check.specs.Lending.{said, lent_by, domain_at};
+ghost use Rattle.lend_check.specs.Lending.{said, lent_by, lend_of};
 ghost use Rattle.lend_check.specs.Parties.{parties};
 ghost use Rattle.lend_check.specs.Models.{domain_model, entry_model, lending_model};
 ghost use Rattle.lend_check.specs.Rule as spec;
@@ -130,17 +129,24 @@ fn k21_colours(frames: u32, colours: u32, domains: &[LendingDomain]) -> Result<(
     Ok(())
 }
 
-#[tactic(auto, unfolding(crate::specs::Rule::k21_entry))]
+/// Whether a domain lends the colour, by the domain's number.
+fn lends(domains: &[LendingDomain], number: i64, colour: i64) -> bool
+    ensures value { result ≡ spec_names (lend_of (map domain_model domains.now) number) colour }
+{
+    if number < 0 || number >= domains.len() as i64 {
+        return false;
+    }
+    names(domains[number as usize].lend.as_slice(), colour)
+}
+
+/// The case of an entry, whose place in the schedule is this.
 fn k21_entry(domains: &[LendingDomain], place: usize, entry: &LendingEntry) -> Result<(), Refusal>
     requires place { place < 2 ^ 63 }
-    requires natural { IsNatural entry.now.domain }
-    requires domain { spec_natural_of entry.now.domain < length domains.now }
     ensures verdict { IsVerdict result (spec.k21_lend place
-        (domain_at (map domain_model domains.now) (spec_natural_of entry.now.domain)).lend entry.now.lend) }
+        (lend_of (map domain_model domains.now) entry.now.domain) entry.now.lend) }
 {
     if let Some(colour) = entry.lend {
-        let domain = &domains[natural_of(entry.domain) as usize];
-        if !names(domain.lend.as_slice(), colour) {
+        if !lends(domains, entry.domain, colour) {
             return Err(refusal(21, place as i64, colour, 3));
         }
     }
@@ -148,7 +154,6 @@ fn k21_entry(domains: &[LendingDomain], place: usize, entry: &LendingEntry) -> R
 }
 
 fn k21_entries(domains: &[LendingDomain], entries: &[LendingEntry]) -> Result<(), Refusal>
-    requires domains { All (spec.IsOfDomain (length domains.now)) (map entry_model entries.now) }
     ensures verdict { IsVerdict result
         (first_in (spec.k21_entry (map domain_model domains.now)) (map entry_model entries.now)) }
 {
@@ -190,8 +195,6 @@ pub fn k21(frames: u32, colours: u32, lending: &Lending) -> Result<(), Refusal>
     requires some { 0 < colours }
     requires few { colours ≤ 64 }
     requires domains { length (lending_model lending.now).domains ≤ 32 }
-    requires entries { All (spec.IsOfDomain (length (lending_model lending.now).domains))
-        (lending_model lending.now).schedule }
     ensures verdict { IsVerdict result (spec.k21 (whole_of frames colours) (lending_model lending.now)) }
 {
     let domains = lending.domains.as_slice();

@@ -1,4 +1,4 @@
-use Rattle.lend_check.proofs.Numbers.{child_is, distinct, below, entry_number}
+use Rattle.lend_check.proofs.Numbers.{child_is, distinct, counted, below, each_number, entry_number}
 use Rattle.lend_check.proofs.laws.parties.Goals as goal
 
 pub returns-clause-child : goal.returns-clause-child
@@ -6,6 +6,12 @@ returns-clause-child c = child_is
 
 pub returns-clause-distinct : goal.returns-clause-distinct
 returns-clause-distinct c = distinct
+
+pub returns-clause-count : goal.returns-clause-count
+returns-clause-count c = counted
+
+pub returns-clause-each : goal.returns-clause-each
+returns-clause-each c = each_number
 
 pub returns-clause-limit : goal.returns-clause-limit
 returns-clause-limit c = below

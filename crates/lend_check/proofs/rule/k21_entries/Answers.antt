@@ -1,19 +1,9 @@
-use Rattle.std.proofs.Common.{pos, None, length, map, refl, sym, ◌∙◌}
+use Rattle.std.proofs.Common.{map, refl, sym, ◌∙◌}
 use Rattle.image_record.proofs.Loops.{refused, passed_of, found_of}
 use Rattle.lend_check.specs.Models.{domain_model, entry_model}
 use Rattle.lend_check.specs.Rule.{k21_entry}
-use Rattle.lend_check.proofs.Counts.{of_domain, entry_at}
+use Rattle.lend_check.proofs.Counts.{entry_at}
 use Rattle.lend_check.proofs.rule.k21_entries.Goals as goal
-
-pub k21_entry-requires-clause-natural : goal.k21_entry-requires-clause-natural
-k21_entry-requires-clause-natural c =
-    (of_domain (length c.args.domains.now) c.args.entries.now c.loop-place.place (record { domain = pos 0; lend = None })
-    c.loop-place-test.true c.requires.domains).natural
-
-pub k21_entry-requires-clause-domain : goal.k21_entry-requires-clause-domain
-k21_entry-requires-clause-domain c =
-    (of_domain (length c.args.domains.now) c.args.entries.now c.loop-place.place (record { domain = pos 0; lend = None })
-    c.loop-place-test.true c.requires.domains).there
 
 pub returns-in_err-k21_entry : goal.returns-in_err-k21_entry
 returns-in_err-k21_entry c =
