@@ -437,6 +437,13 @@ less_than_all g xs d x e below is =
     ∙ length-append own rest) in
     omega (arith, all, length-map (g x).lend (pair d))
 
+-- so a child's number is that of a party
+pub number_below : {A : Type 0} (g : A → LendingDomain) (xs : List A) (d : ℕ) (x e : A) (k : ℕ) → d < length xs
+    → x ≡ get_or xs d e → k < length (g x).lend → parties (map g xs) ≤ 32
+    → length xs + length (said (map g (take d xs))) + k < 32
+number_below g xs d x e k below is within few =
+    omega (arith, less_than_all g xs d x e below is, within, few, length-map xs g)
+
 -- ---- whose an entry is
 
 pub own_entry : (domains : List LendingDomain) (e : LendingEntry) (n : ℕ) → n ≡ natural_of e.domain

@@ -1,5 +1,5 @@
 // K21, the rule of lent colours.
-ghost use Rattle.std.specs.Prelude.{◌≡◌, ◌<◌, ◌≤◌, ◌^◌, ◌++◌, length, map, take};
+ghost use Rattle.std.specs.Prelude.{◌≡◌, ◌<◌, ◌≤◌, ◌^◌, ◌++◌, length, map, take, OnOk};
 ghost use Rattle.frame_colours.specs.Colours.{whole_of};
 ghost use Rattle.image_record.specs.Numbers.{names as spec_names};
 ghost use Rattle.image_record.specs.Cases.{first_in, first_case};
@@ -166,6 +166,7 @@ fn k21_entries(domains: &[LendingDomain], entries: &[LendingEntry]) -> Result<()
 /// The most domains and lent colours together.
 fn most_parties(version: u8) -> usize
     ensures value { result ≡ spec.most_parties version }
+    ensures few { result ≤ 32 }
 {
     if version == 1 { 16 } else { 32 }
 }
@@ -174,6 +175,7 @@ fn most_parties(version: u8) -> usize
 fn k21_parties(version: u8, domains: &[LendingDomain]) -> Result<(), Refusal>
     requires few { parties (map domain_model domains.now) < 2 ^ 63 }
     ensures verdict { IsVerdict result (spec.k21_parties version (map domain_model domains.now)) }
+    ensures few { OnOk result (parties (map domain_model domains.now) ≤ 32) }
 {
     let parties = domains.len() + lent_count(domains);
     if parties > most_parties(version) {
@@ -196,6 +198,7 @@ pub fn k21(frames: u32, colours: u32, lending: &Lending) -> Result<(), Refusal>
     requires few { colours ≤ 64 }
     requires domains { length (lending_model lending.now).domains ≤ 32 }
     ensures verdict { IsVerdict result (spec.k21 (whole_of frames colours) (lending_model lending.now)) }
+    ensures few { OnOk result (parties (lending_model lending.now).domains ≤ 32) }
 {
     let domains = lending.domains.as_slice();
     k21_colours(frames, colours, domains)?;

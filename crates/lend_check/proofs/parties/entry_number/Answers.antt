@@ -14,7 +14,7 @@ returns-in-None c =
     omega (arith, c.requires.domain.there, length-map c.args.domains.now domain_model) in
     let same : to_z w64 (of_z w64 e.domain) ≡ e.domain = search rules in
     let number = c.natural_of-domain.ensures.value ∙ ap natural_of same in
-    record { value = own_entry domains e c.natural_of-domain.result number there c.in-None.is }
+    record { value = ap Some c.new.ensures.value ∙ own_entry domains e c.natural_of-domain.result number there c.in-None.is }
 
 pub returns-in-Some : goal.returns-in-Some
 returns-in-Some c =
