@@ -9,4 +9,6 @@ mod equal;
 #[cfg(test)]
 mod generating;
 #[cfg(test)]
+mod lending;
+#[cfg(test)]
 mod reading;
