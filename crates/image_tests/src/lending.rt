@@ -144,7 +144,6 @@ fn lending_of(alloc: Global, said: &[Said], places: &[Place]) -> Result<Lending,
 // The refusal, if there is one.
 fn told(rt: &impl Abort, frames: u32, colours: u32, lending: &Lending) -> Option<Refusal> {
     assert!(rt; 0 < colours && colours <= 64);
-    assert!(rt; lending.domains.len() <= 32);
     k21(frames, colours, lending).err()
 }
 
@@ -179,7 +178,7 @@ fn the_first_broken_case_is_named(rt: HostRuntime) -> Result<(), ReadRefusal> {
 /// has colour 1 and lends so many from 2 on, the entries, and what is refused.
 type Crowd = (u32, u8, u8, u8, &'static [Place], Numbers);
 
-const CROWDS: [Crowd; 17] = [
+const CROWDS: [Crowd; 18] = [
     (448, 1, 1, 15, &[], None),
     (448, 1, 1, 16, &[], Some((0, 17, 4))),
     (448, 1, 2, 14, &[], None),
@@ -193,6 +192,7 @@ const CROWDS: [Crowd; 17] = [
     (448, 2, 31, 2, &[], Some((0, 33, 4))),
     (448, 2, 32, 0, &[], None),
     (448, 2, 32, 1, &[], Some((0, 33, 4))),
+    (448, 2, 33, 0, &[], Some((0, 33, 4))),
     (448, 2, 1, 62, &[], Some((0, 63, 4))),
     // After the other cases.
     (448, 1, 1, 16, &[(0, Some(18))], Some((0, 18, 3))),
@@ -209,17 +209,9 @@ fn colours_from_2(alloc: Global, many: u8) -> Result<Vec<i64>, ReadRefusal> {
 }
 
 fn lender(alloc: Global, many: u8) -> Result<LendingDomain, ReadRefusal> {
-    let mut domain = domain_of(alloc, RED)?;
-    match colours_from_2(alloc, many) {
-        Ok(lend) => {
-            domain.lend = lend;
-            Ok(domain)
-        }
-        Err(refusal) => {
-            drop(domain);
-            Err(refusal)
-        }
-    }
+    let lend = colours_from_2(alloc, many)?;
+    let colours = Vec::from_slice(alloc, RED.0)?;
+    Ok(LendingDomain { colours, lend })
 }
 
 fn crowd(alloc: Global, domains: u8, many: u8) -> Result<Vec<LendingDomain>, ReadRefusal> {
@@ -286,8 +278,7 @@ fn number(party: Option<DomainNo>) -> Option<u8> {
     Some(party.number())
 }
 
-fn child_in(rt: &impl Abort, lending: &Lending, domain: usize, colour: i64) -> Option<u8> {
-    assert!(rt; lending.domains.len() <= 32);
+fn child_in(lending: &Lending, domain: usize, colour: i64) -> Option<u8> {
     match k21(56, 8, lending) {
         Ok(()) => number(child_number(lending.domains.as_slice(), domain, colour)),
         Err(_) => None,
@@ -295,7 +286,6 @@ fn child_in(rt: &impl Abort, lending: &Lending, domain: usize, colour: i64) -> O
 }
 
 fn owner_in(rt: &impl Abort, lending: &Lending, domain: u8, lend: Option<i64>) -> Option<u8> {
-    assert!(rt; lending.domains.len() <= 32);
     assert!(rt; usize::from(domain) < lending.domains.len());
     let entry = LendingEntry {
         domain: i64::from(domain),
@@ -309,7 +299,7 @@ fn owner_in(rt: &impl Abort, lending: &Lending, domain: u8, lend: Option<i64>) -
 
 fn all_are_numbered(rt: &impl Abort, lending: &Lending) {
     for &(domain, colour, wanted) in &CHILDREN {
-        is_equal(rt, "child", child_in(rt, lending, domain, colour), wanted);
+        is_equal(rt, "child", child_in(lending, domain, colour), wanted);
     }
     for &(domain, lend, wanted) in &OWNERS {
         is_equal(rt, "owner", owner_in(rt, lending, domain, lend), wanted);

@@ -69,7 +69,7 @@ module _ (whole : Whole) (domains : List LendingDomain) (pass : AllPass whole do
       omega (arith, few, length-map (lent domains) (λ (l : ℕ × ℕ). l.1), length-map (said domains) in_naturals)
 
 pub few : (whole : Whole) (domains : List LendingDomain) → first_in (k21_colour whole domains) (said domains) ≡ None
-    → whole.colours ≤ 64 → length domains ≤ 32
+    → whole.colours ≤ 64 → length domains < 2 ^ 62
     → parties domains < 2 ^ 63
 few whole domains none colours many =
     let lent = few_lent whole domains (colours_pass whole domains none) in

@@ -13,7 +13,7 @@ use Rattle.image_record.proofs.FirstCases.{or_first, or_rest, if_first, if_rest,
 use Rattle.lend_check.specs.Lending.{LendingDomain, LendingEntry, Lending, lend_of, in_naturals, said, lent}
 use Rattle.lend_check.specs.Parties.{parties}
 use Rattle.lend_check.specs.Rule.{is_barred, frames_of, most_parties, k21_colour, k21_lend, k21_entry, k21_parties, k21, IsLent, AreLent}
-use Rattle.lend_check.specs.Laws.{MayBeLent, Passes, AllPass, IsLender, AcceptedLaw}
+use Rattle.lend_check.specs.Laws.{MayBeLent, Passes, AllPass, IsOwnOrLent, AcceptedLaw}
 use Rattle.lend_check.proofs.Firsts.{none_in}
 use Rattle.lend_check.proofs.Colours.{may_be_lent, not_barred}
 
@@ -222,11 +222,11 @@ lend_none entry lend None h = refl
 lend_none entry lend (Some y) h = rw (h y refl) refl
 
 pub is_lender : (domains : List LendingDomain) (earlier : List LendingEntry) (e : LendingEntry)
-    → k21_entry domains earlier e ≡ None → IsLender domains e
+    → k21_entry domains earlier e ≡ None → IsOwnOrLent domains e
 unfolding k21_entry
 is_lender domains earlier e n = lender_if (length earlier) (lend_of domains e.domain) e.lend n
 
-pub entry_none : (domains : List LendingDomain) (earlier : List LendingEntry) (e : LendingEntry) → IsLender domains e
+pub entry_none : (domains : List LendingDomain) (earlier : List LendingEntry) (e : LendingEntry) → IsOwnOrLent domains e
     → k21_entry domains earlier e ≡ None
 unfolding k21_entry
 entry_none domains earlier e h = lend_none (length earlier) (lend_of domains e.domain) e.lend h
@@ -235,7 +235,7 @@ pub no_entry : LendingEntry
 no_entry = record { domain = pos 0; lend = None }
 
 abbrev pub EntriesPass : Lending → ℕ → Type 0
-EntriesPass i k = (j : ℕ) (e : LendingEntry) → j < k → slice_get i.schedule j ≡ Some e → IsLender i.domains e
+EntriesPass i k = (j : ℕ) (e : LendingEntry) → j < k → slice_get i.schedule j ≡ Some e → IsOwnOrLent i.domains e
 
 pub lenders : (i : Lending) (k : ℕ)
     → ((j : ℕ) → j < k → j < length i.schedule → k21_entry i.domains (take j i.schedule) (get_or i.schedule j no_entry) ≡ None)
@@ -243,7 +243,7 @@ pub lenders : (i : Lending) (k : ℕ)
 lenders i k none = λ j e before there.
     let within = slice_get_within i.schedule j e there in
     let is = get_or_from_slice_get i.schedule j e no_entry there in
-    subst (IsLender i.domains) is
+    subst (IsOwnOrLent i.domains) is
     (is_lender i.domains (take j i.schedule) (get_or i.schedule j no_entry) (none j before within))
 
 pub entries_none : (i : Lending) (k : ℕ) → EntriesPass i k → (j : ℕ) → j < k → j < length i.schedule

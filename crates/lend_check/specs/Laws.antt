@@ -6,7 +6,7 @@ use Rattle.image_record.specs.Numbers.{natural_of, names}
 use Rattle.image_record.specs.Cases.{refusal}
 use Rattle.lend_check.specs.Lending.{LendingDomain, LendingEntry, Lending, lend_of, own_colours, said, lent}
 use Rattle.lend_check.specs.Parties.{parties, Party, Child, number_of, party_of}
-use Rattle.lend_check.specs.Rule.{IsOfDomain, frames_of, most_parties, k21, AreLent}
+use Rattle.lend_check.specs.Rule.{IsOfDomain, frames_of, least_frames, most_parties, k21, AreLent}
 
 abbrev pub AcceptedLaw : Type 0
 AcceptedLaw = (whole : Whole) (i : Lending) → (k21 whole i ≡ None) ↔ AreLent whole i
@@ -22,15 +22,15 @@ pub record MayBeLent (colours : ℕ) (domains : List LendingDomain) (earlier : L
 
 pub record Passes (whole : Whole) (domains : List LendingDomain) (k : ℕ) (c : ℕ) : Type 0 where
   pub lendable : MayBeLent whole.colours domains (take k (lent domains)) c
-  pub frames : 7 ≤ frames_of whole c
+  pub frames : least_frames ≤ frames_of whole c
 
 -- all lent colours before place k pass
 abbrev pub AllPass : Whole → List LendingDomain → ℕ → Type 0
 AllPass whole domains k = (j : ℕ) (l : ℕ × ℕ) → j < k → slice_get (lent domains) j ≡ Some l → Passes whole domains j l.1
 
 -- the entry is its domain's own, or set aside for a colour that this one lends
-abbrev pub IsLender : List LendingDomain → LendingEntry → Type 0
-IsLender domains e = (x : ℤ) → e.lend ≡ Some x → names (lend_of domains e.domain) x ≡ true
+abbrev pub IsOwnOrLent : List LendingDomain → LendingEntry → Type 0
+IsOwnOrLent domains e = (x : ℤ) → e.lend ≡ Some x → names (lend_of domains e.domain) x ≡ true
 
 -- case 1: the first place of which some case is broken may not be lent
 pub record IsBarredFirst (whole : Whole) (i : Lending) (d : ℕ) (x : ℤ) : Type 0 where
@@ -45,21 +45,21 @@ pub record IsSmallFirst (whole : Whole) (i : Lending) (d : ℕ) (x : ℤ) : Type
   pub there : slice_get (said i.domains) place ≡ Some (d, x)
   pub before : AllPass whole i.domains place
   pub lendable : MayBeLent whole.colours i.domains (take place (lent i.domains)) (natural_of x)
-  pub small : frames_of whole (natural_of x) < 7
+  pub small : frames_of whole (natural_of x) < least_frames
 
 -- case 3: all lent colours pass, and it is the first entry for a colour that its domain doesn't lend
 pub record IsForeignFirst (whole : Whole) (i : Lending) (e : ℕ) (x : ℤ) : Type 0 where
   pub colours : AllPass whole i.domains (length (lent i.domains))
   pub entry : LendingEntry
   pub there : slice_get i.schedule e ≡ Some entry
-  pub before : (j : ℕ) (other : LendingEntry) → j < e → slice_get i.schedule j ≡ Some other → IsLender i.domains other
+  pub before : (j : ℕ) (other : LendingEntry) → j < e → slice_get i.schedule j ≡ Some other → IsOwnOrLent i.domains other
   pub lend : entry.lend ≡ Some x
   pub foreign : names (lend_of i.domains entry.domain) x ≡ false
 
 -- case 4: all colours and entries pass, and parties are too many
 pub record AreTooMany (whole : Whole) (i : Lending) : Type 0 where
   pub colours : AllPass whole i.domains (length (lent i.domains))
-  pub entries : (j : ℕ) (other : LendingEntry) → slice_get i.schedule j ≡ Some other → IsLender i.domains other
+  pub entries : (j : ℕ) (other : LendingEntry) → slice_get i.schedule j ≡ Some other → IsOwnOrLent i.domains other
   pub many : most_parties i.version < length i.domains + length (lent i.domains)
 
 pub data Cause (whole : Whole) (i : Lending) (r : Refusal) : Type 0 where

@@ -79,7 +79,7 @@ pub record IsLent (whole : Whole) (domains : List LendingDomain) (c : ℕ) : Typ
   pub some : 0 < c
   pub range : c < whole.colours
   pub unowned : (d : ℕ) → has (own_colours domains d) c ≡ false
-  pub frames : 7 ≤ frames_of whole c
+  pub frames : least_frames ≤ frames_of whole c
 
 pub record AreLent (whole : Whole) (i : Lending) : Type 0 where
   pub each : (k : ℕ) (l : ℕ × ℕ) → slice_get (lent i.domains) k ≡ Some l → IsLent whole i.domains l.1

@@ -196,7 +196,6 @@ fn k21_parties(version: u8, domains: &[LendingDomain]) -> Result<(), Refusal>
 pub fn k21(frames: u32, colours: u32, lending: &Lending) -> Result<(), Refusal>
     requires some { 0 < colours }
     requires few { colours ≤ 64 }
-    requires domains { length (lending_model lending.now).domains ≤ 32 }
     ensures verdict { IsVerdict result (spec.k21 (whole_of frames colours) (lending_model lending.now)) }
     ensures few { OnOk result (parties (lending_model lending.now).domains ≤ 32) }
 {
