@@ -22,7 +22,7 @@ const RED: Said = (&[1], &[]);
 
 const BLUE: Said = (&[2], &[]);
 
-const ROWS: [Row; 40] = [
+const PASSED: [Row; 7] = [
     (64, &[RED, BLUE], &[(0, None), (1, None)], None),
     (
         64,
@@ -33,7 +33,14 @@ const ROWS: [Row; 40] = [
     (64, &[RED, (&[2], &[3])], &[(1, Some(3))], None),
     (64, &[(&[1], &[3])], &[], None),
     (64, &[(&[1], &[3, 2])], &[(0, Some(2)), (0, Some(3))], None),
-    // Case 1: none of 1 to 3.
+    // Of 28 frames seven have colour 3, of 27 colour 2.
+    (28, &[(&[1], &[3])], &[], None),
+    (27, &[(&[1], &[2])], &[], None),
+];
+
+// Case 1.
+const BARRED: [Row; 15] = [
+    // None of 1 to 3.
     (64, &[(&[1], &[0]), BLUE], &[], Some((0, 0, 1))),
     (64, &[(&[1], &[4]), BLUE], &[], Some((0, 4, 1))),
     (64, &[RED, (&[2], &[-1])], &[], Some((1, -1, 1))),
@@ -57,7 +64,24 @@ const ROWS: [Row; 40] = [
     (64, &[(&[1], &[4, 0]), BLUE], &[], Some((0, 4, 1))),
     (64, &[(&[1], &[4]), (&[2], &[0])], &[], Some((0, 4, 1))),
     (64, &[(&[1], &[3]), (&[2], &[3, 0])], &[], Some((1, 3, 1))),
-    // Case 3: nobody lends it, another does, there is no such domain.
+];
+
+// Case 2: of 27 frames six have colour 3.
+const SMALL: [Row; 8] = [
+    (27, &[(&[1], &[3])], &[], Some((0, 3, 2))),
+    (26, &[RED, (&[0], &[2])], &[], Some((1, 2, 2))),
+    (0, &[(&[1], &[2])], &[], Some((0, 2, 2))),
+    (27, &[(&[1], &[2, 3])], &[], Some((0, 3, 2))),
+    // Place by place, and then case by case; before entries.
+    (27, &[(&[1], &[3, 0])], &[], Some((0, 3, 2))),
+    (27, &[(&[1], &[0, 3])], &[], Some((0, 0, 1))),
+    (26, &[(&[1], &[1, 2])], &[], Some((0, 1, 1))),
+    (27, &[(&[1], &[3])], &[(0, Some(2))], Some((0, 3, 2))),
+];
+
+// Case 3.
+const FOREIGN: [Row; 10] = [
+    // Nobody lends it, another does, there is no such domain.
     (
         64,
         &[RED, BLUE],
@@ -94,18 +118,6 @@ const ROWS: [Row; 40] = [
         &[(0, Some(2))],
         Some((1, 3, 1)),
     ),
-    // Case 2: of 27 frames six have colour 3, of 28 seven.
-    (28, &[(&[1], &[3])], &[], None),
-    (27, &[(&[1], &[3])], &[], Some((0, 3, 2))),
-    (27, &[(&[1], &[2])], &[], None),
-    (26, &[RED, (&[0], &[2])], &[], Some((1, 2, 2))),
-    (0, &[(&[1], &[2])], &[], Some((0, 2, 2))),
-    (27, &[(&[1], &[2, 3])], &[], Some((0, 3, 2))),
-    // Place by place, and then case by case; before entries.
-    (27, &[(&[1], &[3, 0])], &[], Some((0, 3, 2))),
-    (27, &[(&[1], &[0, 3])], &[], Some((0, 0, 1))),
-    (26, &[(&[1], &[1, 2])], &[], Some((0, 1, 1))),
-    (27, &[(&[1], &[3])], &[(0, Some(2))], Some((0, 3, 2))),
 ];
 
 fn domain_of(alloc: Global, said: Said) -> Result<LendingDomain, ReadRefusal> {
@@ -166,12 +178,33 @@ fn is_told(rt: &impl Abort, alloc: Global, row: &Row) -> Result<(), ReadRefusal>
     Ok(())
 }
 
-#[test]
-fn the_first_broken_case_is_named(rt: HostRuntime) -> Result<(), ReadRefusal> {
-    for row in &ROWS {
-        is_told(&rt, rt.alloc(), row)?;
+fn are_told(rt: &impl Abort, alloc: Global, rows: &[Row]) -> Result<(), ReadRefusal> {
+    for row in rows {
+        is_told(rt, alloc, row)?;
     }
     Ok(())
+}
+
+#[test]
+fn colours_that_no_case_bars_are_lent(rt: HostRuntime) -> Result<(), ReadRefusal> {
+    are_told(&rt, rt.alloc(), &PASSED)
+}
+
+#[test]
+fn a_colour_that_may_not_be_lent_is_named(rt: HostRuntime) -> Result<(), ReadRefusal> {
+    are_told(&rt, rt.alloc(), &BARRED)
+}
+
+#[test]
+fn a_colour_of_six_frames_is_named(rt: HostRuntime) -> Result<(), ReadRefusal> {
+    are_told(&rt, rt.alloc(), &SMALL)
+}
+
+#[test]
+fn an_entry_for_a_colour_that_its_domain_does_not_lend_is_named(
+    rt: HostRuntime,
+) -> Result<(), ReadRefusal> {
+    are_told(&rt, rt.alloc(), &FOREIGN)
 }
 
 /// Of 64 colours and so many frames: the version, how many domains there are, of which the first
