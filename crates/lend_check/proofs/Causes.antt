@@ -1,5 +1,5 @@
 -- Why the rule of lent colours refuses an image, both ways.
-use Rattle.std.proofs.Common.{◌≡◌, ℕ, ◌+◌, ◌<◌, ◌≤◌, Bool, true, false, List, [], length, map, take, get_or, Option, Some, None, refl, sym, ap, subst, ◌∙◌, arith, true≢false}
+use Rattle.std.proofs.Common.{◌≡◌, ℕ, ◌+◌, ◌<◌, Bool, true, false, List, [], length, take, get_or, Option, Some, None, refl, sym, ap, subst, ◌∙◌, arith, true≢false}
 use Rattle.std.specs.Prelude.{ℤ, pos, nat_lt, slice_get, if◌then◌else◌}
 use Rattle.std.proofs.lemmas.Bool.{ltb-true}
 use Rattle.std.proofs.lemmas.Bool.Decides.{nat_tests}
@@ -12,9 +12,8 @@ use Rattle.image_record.specs.Cases.{or_else, first_in, refusal}
 use Rattle.lend_check.specs.Lending.{LendingDomain, LendingEntry, Lending, lend_of, said, lent, in_naturals}
 use Rattle.lend_check.specs.Parties.{parties}
 use Rattle.lend_check.specs.Rule.{is_barred, frames_of, most_parties, k21_colour, k21_lend, k21_entry, k21_parties, k21}
-use Rattle.lend_check.specs.Laws.{MayBeLent, AllPass, IsBarredFirst, IsSmallFirst, IsForeignFirst, AreTooMany, Cause, Barred, Small, Foreign, Many, CauseLaw}
+use Rattle.lend_check.specs.Laws.{MayBeLent, AllPass, IsForeignFirst, AreTooMany, Cause, Barred, Small, Foreign, Many, CauseLaw}
 use Rattle.lend_check.proofs.Firsts.{First, first_of, is_first}
-use Rattle.lend_check.proofs.Colours.{may_be_lent, not_barred}
 use Rattle.lend_check.proofs.Kept.{no_colour, said_at, free_at, may_at, all_pass, none_before, colours_pass, colours_none, no_entry, lenders, entries_none, entries_pass, no_entries}
 
 -- ---- a colour

@@ -1,17 +1,16 @@
 -- The cases of a lent colour, in natural numbers.
-use Rattle.std.proofs.Common.{◌≡◌, ℕ, ◌-◌, ◌<◌, ◌≤◌, Bool, true, false, ◌||◌, List, [], ◌∷◌, length, map, take, get_or, Option, Some, None, refl, sym, ap, ap₂, subst, ◌∙◌, arith, ◌⊎◌, inl, inr, true≢false}
-use Rattle.std.specs.Prelude.{ℤ, pos, negsuc, nat_eq, nat_lt, slice_get, if◌then◌else◌}
-use Rattle.std.specs.List.{All, list_any}
+use Rattle.std.proofs.Common.{◌≡◌, ℕ, ◌-◌, ◌<◌, ◌≤◌, Bool, true, false, ◌||◌, List, [], ◌∷◌, length, map, get_or, refl, sym, ap₂, subst, ◌∙◌, arith, ◌⊎◌, inl, inr, true≢false}
+use Rattle.std.specs.Prelude.{ℤ, pos, negsuc, nat_eq}
 use Rattle.std.proofs.lemmas.Bool.{cases_lt}
 use Rattle.std.proofs.lemmas.Bool.Decides.{nat_tests}
 use Rattle.std.proofs.lemmas.List.{get_or_past, get_or_default}
 use Rattle.std.proofs.lemmas.List.Folds.{list_any_at, list_any_none}
-use Rattle.frame_colours.specs.Colours.{Whole, has}
+use Rattle.frame_colours.specs.Colours.{has}
 use Rattle.image_record.specs.Numbers.{natural_of, is_same, names}
 use Rattle.image_record.specs.Cases.{outside}
 use Rattle.image_record.proofs.Ranges.{inside}
-use Rattle.lend_check.specs.Lending.{LendingDomain, no_domain, domain_at, own_colours, in_naturals, said, lent}
-use Rattle.lend_check.specs.Rule.{is_own, is_lent, is_barred, frames_of}
+use Rattle.lend_check.specs.Lending.{LendingDomain, no_domain, domain_at, in_naturals}
+use Rattle.lend_check.specs.Rule.{is_own, is_lent, is_barred}
 use Rattle.lend_check.specs.Laws.{MayBeLent}
 
 -- ---- integers from 1 on are the same where their natural numbers are

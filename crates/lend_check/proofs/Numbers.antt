@@ -1,21 +1,18 @@
 -- How parties are numbered.
-use Rattle.std.proofs.Common.{◌≡◌, ◌≢◌, ℕ, zero, suc, ◌+◌, ◌<◌, ◌≤◌, Bool, true, false, ◌&&◌, List, [], ◌∷◌, ◌++◌, length, map, take, drop, get_or, Option, Some, None, refl, sym, ap, ap₂, subst, ◌∙◌, arith, ◌-◌, ◌⊎◌, inl, inr, true≢false, eqb-true, cond}
-use Rattle.std.specs.Prelude.{ℤ, pos, negsuc, nat_eq, nat_lt, slice_get, if◌then◌else◌, option_map}
+use Rattle.std.proofs.Common.{◌≡◌, ℕ, zero, suc, ◌+◌, ◌<◌, ◌≤◌, Bool, true, false, ◌&&◌, List, [], ◌∷◌, ◌++◌, length, map, take, drop, get_or, Option, Some, None, refl, sym, ap, ap₂, ◌∙◌, arith, ◌-◌, ◌⊎◌, inl, inr, eqb-true, cond}
+use Rattle.std.specs.Prelude.{ℤ, pos, negsuc, nat_eq, nat_lt, if◌then◌else◌, option_map}
 use Rattle.std.specs.List.{position, position_from}
 use Rattle.std.proofs.lemmas.Bool.{cases_lt, ltb-true}
 use Rattle.std.proofs.lemmas.Bool.Decides.{nat_tests}
 use Rattle.std.proofs.lemmas.List.{append_assoc, append-nil, take-map, drop-map, drop_more, length-append, length-map, length-take, get_or-map, get_or_append_left, get_or-append-add}
-use Rattle.std.proofs.lemmas.Option.{slice_get_within}
 use Rattle.std.proofs.lemmas.Iterator.Adapters.{position_from-zero}
-use Rattle.frame_colours.specs.Colours.{Whole}
 use Rattle.image_record.specs.Numbers.{IsNatural, natural_of, is_same, names}
 use Rattle.image_record.specs.Cases.{or_else, first_case, first_in}
 use Rattle.image_record.proofs.FirstCases.{first_in_none}
 use Rattle.image_record.proofs.Listed.{stands}
 use Rattle.image_record.proofs.Loops.{count_of}
-use Rattle.lend_check.specs.Lending.{LendingDomain, LendingEntry, Lending, domain_at, lend_of, lent_by, lent_from, said, lent, in_naturals}
+use Rattle.lend_check.specs.Lending.{LendingDomain, LendingEntry, domain_at, lend_of, lent_by, lent_from, said, in_naturals}
 use Rattle.lend_check.specs.Parties.{parties, is_child, if_child, child_number, Party, Domain, Child, number_of, party_of, party_by}
-use Rattle.lend_check.specs.Rule.{most_parties, AreLent}
 use Rattle.lend_check.specs.Laws.{ChildLaw, DistinctLaw, CountLaw, LimitLaw, EachLaw, EntryLaw}
 use Rattle.lend_check.proofs.Firsts.{First, first_of, is_first, case_append}
 use Rattle.lend_check.proofs.Walks.{halves, split}

@@ -7,7 +7,7 @@ use Rattle.std.proofs.lemmas.List.Folds.{list_any-append}
 use Rattle.image_record.specs.Numbers.{is_same, names}
 use Rattle.image_record.specs.Cases.{or_else, first_case}
 use Rattle.image_record.proofs.Loops.{count_of}
-use Rattle.lend_check.specs.Lending.{LendingDomain, lent_by, lent_from, said, domain_at}
+use Rattle.lend_check.specs.Lending.{LendingDomain, lent_by, lent_from, said}
 use Rattle.lend_check.specs.Rule.{is_lent}
 use Rattle.lend_check.proofs.Firsts.{case_append}
 

@@ -4,8 +4,8 @@ use Rattle.std.specs.List.{range_with_len}
 use Rattle.frame_colours.specs.Colours.{Whole, whole_of, pool}
 use Rattle.image_record.specs.declared.refusal.Refusal.{Refusal}
 use Rattle.image_record.specs.Cases.{refusal}
-use Rattle.lend_check.specs.Lending.{LendingDomain, LendingEntry, Lending, lent}
-use Rattle.lend_check.specs.Parties.{child_number, Domain, Child, number_of, party_of}
+use Rattle.lend_check.specs.Lending.{LendingDomain, LendingEntry, lent}
+use Rattle.lend_check.specs.Parties.{child_number, number_of, party_of}
 use Rattle.lend_check.specs.Rule.{k21_colour, k21_entry, k21_parties, k21}
 
 abbrev pub domain : ℤ → List ℤ → LendingDomain

@@ -1,5 +1,5 @@
 -- The rule of lent colours in other words: when it lets an image through, why it refuses one, and how parties are numbered.
-use Rattle.std.specs.Prelude.{◌≡◌, ℕ, ◌+◌, ◌<◌, ◌≤◌, ◌↔◌, ℤ, pos, true, false, List, map, length, take, slice_get, Option, Some, None}
+use Rattle.std.specs.Prelude.{◌≡◌, ℕ, ◌+◌, ◌<◌, ◌≤◌, ◌↔◌, ℤ, pos, true, false, List, map, length, take, slice_get, Some, None}
 use Rattle.frame_colours.specs.Colours.{Whole, has}
 use Rattle.image_record.specs.declared.refusal.Refusal.{Refusal}
 use Rattle.image_record.specs.Numbers.{natural_of, names}

@@ -1,9 +1,8 @@
-use Rattle.std.proofs.Common.{◌≡◌, ◌+◌, ◌<◌, ℕ, None, Some, rules, to_z, of_z, w64, length, map, take, sym, ap, ◌∙◌, arith}
-use Rattle.std.proofs.lemmas.List.{length-map}
+use Rattle.std.proofs.Common.{◌≡◌, ◌+◌, ◌<◌, ℕ, None, Some, rules, to_z, of_z, w64, length, map, sym, ap, ◌∙◌, arith}
 use Rattle.std.specs.List.{position}
 use Rattle.image_record.specs.Cases.{first_in}
 use Rattle.image_record.specs.Numbers.{is_same}
-use Rattle.lend_check.specs.Lending.{said, lent_by}
+use Rattle.lend_check.specs.Lending.{lent_by}
 use Rattle.lend_check.specs.Parties.{if_child, child_number}
 use Rattle.lend_check.specs.Models.{domain_model}
 use Rattle.lend_check.proofs.Numbers.{in_list, not_in_list, no_domain_there, place_in_list, less_than_all, number_below}

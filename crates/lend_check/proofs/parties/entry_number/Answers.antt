@@ -1,4 +1,4 @@
-use Rattle.std.proofs.Common.{◌≡◌, ◌<◌, rules, to_z, of_z, w64, Some, length, map, sym, ap, ◌∙◌, arith}
+use Rattle.std.proofs.Common.{◌≡◌, ◌<◌, rules, to_z, of_z, w64, Some, length, map, ap, ◌∙◌, arith}
 use Rattle.std.proofs.lemmas.List.{length-map}
 use Rattle.image_record.specs.Numbers.{natural_of}
 use Rattle.lend_check.specs.Parties.{child_number}
