@@ -143,7 +143,8 @@ why whole i r e = by_colours (first_in (k21_colour whole i.domains) (said i.doma
         entry_case whole i r colours (first_of (k21_entry i.domains) i.schedule no_entry r (is ∙ e))
     by_entries colours None is e = count_case whole i r colours is e
 
-    by_colours : (o : Option Refusal) → first_in (k21_colour whole i.domains) (said i.domains) ≡ o → or_else o rest ≡ Some r
+    by_colours : (o : Option Refusal) → first_in (k21_colour whole i.domains) (said i.domains) ≡ o
+        → or_else o rest ≡ Some r
         → Cause whole i r
     by_colours (Some q) is e =
         colour_case whole i r (first_of (k21_colour whole i.domains) (said i.domains) no_colour r (is ∙ e))
@@ -156,7 +157,8 @@ barred_at : (whole : Whole) (domains : List LendingDomain) (k : ℕ) (d : ℕ) (
     → k21_colour whole domains (take k (said domains)) (said_at domains k) ≡ Some (refusal 21 (pos d) x (pos 1))
 unfolding k21_colour
 barred_at whole domains k d x is barred =
-    let P : ℕ × ℤ → Type 0 = λ l. k21_colour whole domains (take k (said domains)) l ≡ Some (refusal 21 (pos d) x (pos 1)) in
+    let P : ℕ × ℤ → Type 0 =
+    λ l. k21_colour whole domains (take k (said domains)) l ≡ Some (refusal 21 (pos d) x (pos 1)) in
     subst P (sym is) (by_case (is_barred whole.colours domains (take k (said domains)) x) refl)
   where
     by_case : (b : Bool) → is_barred whole.colours domains (take k (said domains)) x ≡ b
@@ -176,7 +178,8 @@ small_at : (whole : Whole) (domains : List LendingDomain) (k : ℕ) (d : ℕ) (x
     → k21_colour whole domains (take k (said domains)) (said_at domains k) ≡ Some (refusal 21 (pos d) x (pos 2))
 unfolding k21_colour
 small_at whole domains k d x is may small =
-    let P : ℕ × ℤ → Type 0 = λ l. k21_colour whole domains (take k (said domains)) l ≡ Some (refusal 21 (pos d) x (pos 2)) in
+    let P : ℕ × ℤ → Type 0 =
+    λ l. k21_colour whole domains (take k (said domains)) l ≡ Some (refusal 21 (pos d) x (pos 2)) in
     let Q : ℕ × ℤ → Type 0 = λ l. MayBeLent whole.colours domains (take k (lent domains)) (natural_of l.1) in
     let S : ℕ × ℤ → Type 0 = λ l. is_barred whole.colours domains (take k (said domains)) l.1 ≡ false in
     let free = subst S is (free_at whole domains k (subst Q (sym is) may)) in
@@ -208,7 +211,8 @@ entry_told whole i e x f =
     ≡ Some (refusal 21 (pos e) x (pos 3)) in
     let first =
     is_first (k21_entry i.domains) i.schedule no_entry (refusal 21 (pos e) x (pos 3)) e within
-    (λ j below. entries_none i e (λ m other before there. f.before m other before there) j below (omega (arith, below, within)))
+    (λ j below.
+    entries_none i e (λ m other before there. f.before m other before there) j below (omega (arith, below, within)))
     (subst P (sym is) told) in
     rw (colours_none whole i.domains f.colours, first) refl
 
@@ -221,13 +225,15 @@ many_told whole i m =
     let many = m.many in
     let above : nat_lt (most_parties i.version) (parties i.domains) ≡ true = grind (arith, nat_tests, many, count) in
     let entries = no_entries i (λ j e before there. m.entries j e there) in
-    rw (colours_none whole i.domains m.colours, entries, above) (ap (λ (n : ℕ). Some (refusal 21 (pos 0) (pos n) (pos 4))) count)
+    rw (colours_none whole i.domains m.colours, entries, above)
+    (ap (λ (n : ℕ). Some (refusal 21 (pos 0) (pos n) (pos 4))) count)
 
 told : (whole : Whole) (i : Lending) (r : Refusal) → Cause whole i r → k21 whole i ≡ Some r
 told whole i r (Barred d x is b) =
     let there = get_or_from_slice_get (said i.domains) b.place (d, x) no_colour b.there in
     subst (λ (q : Refusal). k21 whole i ≡ Some q) (sym is)
-    (colour_told whole i (refusal 21 (pos d) x (pos 1)) b.place d x b.there b.before (barred_at whole i.domains b.place d x there b.barred))
+    (colour_told whole i (refusal 21 (pos d) x (pos 1)) b.place d x b.there b.before
+    (barred_at whole i.domains b.place d x there b.barred))
 told whole i r (Small d x is s) =
     let there = get_or_from_slice_get (said i.domains) s.place (d, x) no_colour s.there in
     subst (λ (q : Refusal). k21 whole i ≡ Some q) (sym is)

@@ -51,7 +51,9 @@ own_none : (domains : List LendingDomain) (x : ℤ) → ((d : ℕ) → names (do
 own_none domains x none = list_any_none (λ o. names o.colours x) domains (λ d e l. at d e l)
   where
     at : (d : ℕ) (e : LendingDomain) → d < length domains → names (get_or domains d e).colours x ≡ false
-    at d e l = let P : LendingDomain → Type 0 = λ o. names o.colours x ≡ false in subst P (get_or_default domains d no_domain e l) (none d)
+    at d e l =
+        let P : LendingDomain → Type 0 = λ o. names o.colours x ≡ false in
+        subst P (get_or_default domains d no_domain e l) (none d)
 
 -- ---- what is barred, and what may be lent
 

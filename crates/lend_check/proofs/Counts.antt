@@ -1,4 +1,4 @@
--- How many colours are lent where the rule lets them through, and the steps of the code over domains and entries.
+-- How many colours are lent where the rule lets them through, and a step of the code over entries.
 use Rattle.std.proofs.Common.{◌≡◌, ℕ, ◌<◌, ◌≤◌, ◌^◌, Bool, true, false, List, length, map, take, get_or, Option, None, Some, refl, sym, ap, subst, ◌∙◌, arith, eqb, eqb-true}
 use Rattle.std.specs.Prelude.{slice_get}
 use Rattle.std.specs.List.{list_any}

@@ -13,7 +13,9 @@ case_all {A = A} f earlier (x ∷ xs) d h =
     let here : f earlier x ≡ None = subst P (append-nil earlier) (h 0 (omega arith)) in
     let rest =
     case_all f (earlier ++ x ∷ []) xs d
-    (λ k l. let Q : List A → Type 0 = λ ys. f ys (get_or xs k d) ≡ None in subst Q (sym (append_assoc earlier (x ∷ []) (take k xs))) (h (suc k) (omega (arith, l)))) in
+    (λ k l.
+    let Q : List A → Type 0 = λ ys. f ys (get_or xs k d) ≡ None in
+    subst Q (sym (append_assoc earlier (x ∷ []) (take k xs))) (h (suc k) (omega (arith, l)))) in
     ap (λ o. or_else o (first_case f (earlier ++ x ∷ []) xs)) here ∙ rest
 
 pub none_in : {A R : Type 0} (f : List A → A → Option R) (xs : List A) (d : A)
@@ -30,7 +32,8 @@ pub record First {A R : Type 0} (f : List A → A → Option R) (earlier xs : Li
 pub case_first : {A R : Type 0} (f : List A → A → Option R) (earlier xs : List A) (d : A) (r : R)
     → first_case f earlier xs ≡ Some r → First f earlier xs d r
 case_first f earlier [] d r e = cc
-case_first {A = A} {R = R} f earlier (x ∷ xs) d r e = by_case (case_first f (earlier ++ x ∷ []) xs d r) (f earlier x) refl e
+case_first {A = A} {R = R} f earlier (x ∷ xs) d r e =
+    by_case (case_first f (earlier ++ x ∷ []) xs d r) (f earlier x) refl e
   where
     none : Option R → List A → Type 0
     none o ys = f ys x ≡ o
@@ -83,7 +86,9 @@ case_is {A = A} f earlier (x ∷ xs) d r (suc k) l before here =
     let passes : f earlier x ≡ None = subst P (append-nil earlier) (before 0 (omega arith)) in
     let rest =
     case_is f (earlier ++ x ∷ []) xs d r k (omega (arith, l))
-    (λ j m. let S : List A → Type 0 = λ ys. f ys (get_or xs j d) ≡ None in subst S (sym (append_assoc earlier (x ∷ []) (take j xs))) (before (suc j) (omega (arith, m))))
+    (λ j m.
+    let S : List A → Type 0 = λ ys. f ys (get_or xs j d) ≡ None in
+    subst S (sym (append_assoc earlier (x ∷ []) (take j xs))) (before (suc j) (omega (arith, m))))
     (subst Q (sym (append_assoc earlier (x ∷ []) (take k xs))) here) in
     ap (λ o. or_else o (first_case f (earlier ++ x ∷ []) xs)) passes ∙ rest
 

@@ -35,7 +35,9 @@ at domains k l e =
     omega (arith, length-map (said domains) in_naturals, slice_get_within (lent domains) k l e) in
     record {
       within = within;
-      is = sym (get_or-map in_naturals (said domains) k no_colour l within) ∙ get_or_from_slice_get (lent domains) k l l e;
+      is =
+          sym (get_or-map in_naturals (said domains) k no_colour l within)
+          ∙ get_or_from_slice_get (lent domains) k l l e;
     }
 
 pub get_lent : (domains : List LendingDomain) (k : ℕ) → k < length (said domains)
@@ -52,7 +54,8 @@ pub may_at : (whole : Whole) (domains : List LendingDomain) (k : ℕ)
     → MayBeLent whole.colours domains (take k (lent domains)) (natural_of (said_at domains k).1)
 may_at whole domains k free =
     let l = said_at domains k in
-    subst (λ (es : List (ℕ × ℕ)). MayBeLent whole.colours domains es (natural_of l.1)) (sym (take-map in_naturals k (said domains)))
+    subst (λ (es : List (ℕ × ℕ)). MayBeLent whole.colours domains es (natural_of l.1))
+    (sym (take-map in_naturals k (said domains)))
     (may_be_lent whole.colours domains (take k (said domains)) l.1 free)
 
 pub passes_at : (whole : Whole) (domains : List LendingDomain) (k : ℕ)
@@ -90,13 +93,15 @@ unfolding k21_colour
 none_at whole domains k p =
     let free = free_at whole domains k p.lendable in
     let frames = p.frames in
-    let enough : nat_lt (frames_of whole (natural_of (said_at domains k).1)) 7 ≡ false = grind (arith, nat_tests, frames) in
+    let enough : nat_lt (frames_of whole (natural_of (said_at domains k).1)) 7 ≡ false =
+    grind (arith, nat_tests, frames) in
     rw (free, enough) refl
 
 -- ---- of all lent colours
 
 pub all_pass : (whole : Whole) (domains : List LendingDomain) (k : ℕ)
-    → ((j : ℕ) → j < k → j < length (said domains) → k21_colour whole domains (take j (said domains)) (said_at domains j) ≡ None)
+    → ((j : ℕ) → j < k → j < length (said domains)
+    → k21_colour whole domains (take j (said domains)) (said_at domains j) ≡ None)
     → AllPass whole domains k
 all_pass whole domains k none = λ j l before e.
     let there = at domains j l e in
@@ -107,7 +112,8 @@ pub none_before : (whole : Whole) (domains : List LendingDomain) (k : ℕ) → A
 none_before whole domains k pass j before l =
     none_at whole domains j (pass j (in_naturals (said_at domains j)) before (get_lent domains j l))
 
-pub colours_pass : (whole : Whole) (domains : List LendingDomain) → first_in (k21_colour whole domains) (said domains) ≡ None
+pub colours_pass : (whole : Whole) (domains : List LendingDomain)
+    → first_in (k21_colour whole domains) (said domains) ≡ None
     → AllPass whole domains (length (lent domains))
 colours_pass whole domains n =
     all_pass whole domains (length (lent domains))
@@ -117,7 +123,9 @@ pub colours_none : (whole : Whole) (domains : List LendingDomain) → AllPass wh
     → first_in (k21_colour whole domains) (said domains) ≡ None
 colours_none whole domains pass =
     none_in (k21_colour whole domains) (said domains) no_colour
-    (λ k l. none_before whole domains (length (lent domains)) pass k (omega (arith, length-map (said domains) in_naturals, l)) l)
+    (λ k l.
+    let below : k < length (lent domains) = omega (arith, length-map (said domains) in_naturals, l) in
+    none_before whole domains (length (lent domains)) pass k below l)
 
 -- ---- each lent once
 
@@ -238,7 +246,8 @@ abbrev pub EntriesPass : Lending → ℕ → Type 0
 EntriesPass i k = (j : ℕ) (e : LendingEntry) → j < k → slice_get i.schedule j ≡ Some e → IsOwnOrLent i.domains e
 
 pub lenders : (i : Lending) (k : ℕ)
-    → ((j : ℕ) → j < k → j < length i.schedule → k21_entry i.domains (take j i.schedule) (get_or i.schedule j no_entry) ≡ None)
+    → ((j : ℕ) → j < k → j < length i.schedule
+    → k21_entry i.domains (take j i.schedule) (get_or i.schedule j no_entry) ≡ None)
     → EntriesPass i k
 lenders i k none = λ j e before there.
     let within = slice_get_within i.schedule j e there in

@@ -56,7 +56,8 @@ numbered : (domains : List LendingDomain) (d : ℕ) (x : ℤ) (n : ℕ) → chil
 unfolding child_number
 numbered domains d x n e = by_case (first_in (if_child (d, x)) (said domains)) refl e
   where
-    by_test : (k : ℕ) → length domains + k ≡ n → (f : First (if_child (d, x)) [] (said domains) no_colour k) → (b : Bool)
+    by_test : (k : ℕ) → length domains + k ≡ n → (f : First (if_child (d, x)) [] (said domains) no_colour k)
+        → (b : Bool)
         → is_child (d, x) (said_at domains f.place) ≡ b
         → (if b then Some (length (take f.place (said domains))) else None) ≡ Some k
         → Numbered domains d x n
@@ -294,8 +295,10 @@ shifted child before earlier (x ∷ xs) = by_case (is_child child x) (shifted ch
     next = earlier ++ x ∷ []
 
     by_case : (b : Bool)
-        → first_case (if_child child) (before ++ next) xs ≡ option_map (λ k. length before + k) (first_case (if_child child) next xs)
-        → or_else (if b then Some (length (before ++ earlier)) else None) (first_case (if_child child) ((before ++ earlier) ++ x ∷ []) xs)
+        → first_case (if_child child) (before ++ next) xs
+        ≡ option_map (λ k. length before + k) (first_case (if_child child) next xs)
+        → or_else (if b then Some (length (before ++ earlier)) else None)
+        (first_case (if_child child) ((before ++ earlier) ++ x ∷ []) xs)
         ≡ option_map (λ k. length before + k)
         (or_else (if b then Some (length earlier) else None) (first_case (if_child child) next xs))
     by_case true rest = ap Some (length-append before earlier)
@@ -406,7 +409,9 @@ place_from d z earlier (y ∷ ys) = by_case (is_same y z) refl (place_from d z (
         → position_from (λ x. is_same x z) (length next) ys ≡ first_case (if_child (d, z)) next (lent_by d ys)
         → cond b (Some (length earlier)) (position_from (λ x. is_same x z) (length earlier + 1) ys)
         ≡ or_else (if_child (d, z) earlier (d, y)) (first_case (if_child (d, z)) next (lent_by d ys))
-    by_case true same rest = sym (ap (λ o. or_else o (first_case (if_child (d, z)) next (lent_by d ys))) (this_one d (length earlier) z y earlier same refl))
+    by_case true same rest =
+        let one = this_one d (length earlier) z y earlier same refl in
+        sym (ap (λ o. or_else o (first_case (if_child (d, z)) next (lent_by d ys))) one)
     by_case false other rest =
         ap (λ (n : ℕ). position_from (λ x. is_same x z) n ys) count ∙ rest
         ∙ sym (ap (λ o. or_else o (first_case (if_child (d, z)) next (lent_by d ys))) (not_this d z y earlier other))

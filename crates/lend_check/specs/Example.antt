@@ -23,7 +23,8 @@ abbrev pub memory : Whole
 memory = whole_of 64 4
 
 abbrev pub told_in : Whole → ℕ → List LendingDomain → List LendingEntry → Option Refusal
-told_in whole version domains schedule = k21 whole (record { version = version; domains = domains; schedule = schedule })
+told_in whole version domains schedule =
+    k21 whole (record { version = version; domains = domains; schedule = schedule })
 
 -- the rule of red, of colour 1, and blue, of colour 2, where they lend these and have these entries
 abbrev pub told : List ℤ → List ℤ → List LendingEntry → Option Refusal

@@ -1,4 +1,5 @@
--- The rule of lent colours in other words: when it lets an image through, why it refuses one, and how parties are numbered.
+-- The rule of lent colours in other words: when it lets an image through, and why it refuses one; and how parties are
+-- numbered.
 use Rattle.std.specs.Prelude.{◌≡◌, ℕ, ◌+◌, ◌<◌, ◌≤◌, ◌↔◌, ℤ, pos, true, false, List, map, length, take, slice_get, Some, None}
 use Rattle.frame_colours.specs.Colours.{Whole, has}
 use Rattle.image_record.specs.declared.refusal.Refusal.{Refusal}
@@ -52,7 +53,8 @@ pub record IsForeignFirst (whole : Whole) (i : Lending) (e : ℕ) (x : ℤ) : Ty
   pub colours : AllPass whole i.domains (length (lent i.domains))
   pub entry : LendingEntry
   pub there : slice_get i.schedule e ≡ Some entry
-  pub before : (j : ℕ) (other : LendingEntry) → j < e → slice_get i.schedule j ≡ Some other → IsOwnOrLent i.domains other
+  pub before : (j : ℕ) (other : LendingEntry) → j < e → slice_get i.schedule j ≡ Some other
+      → IsOwnOrLent i.domains other
   pub lend : entry.lend ≡ Some x
   pub foreign : names (lend_of i.domains entry.domain) x ≡ false
 
@@ -66,7 +68,8 @@ pub data Cause (whole : Whole) (i : Lending) (r : Refusal) : Type 0 where
   Barred : (d : ℕ) (x : ℤ) → r ≡ refusal 21 (pos d) x (pos 1) → IsBarredFirst whole i d x → Cause whole i r
   Small : (d : ℕ) (x : ℤ) → r ≡ refusal 21 (pos d) x (pos 2) → IsSmallFirst whole i d x → Cause whole i r
   Foreign : (e : ℕ) (x : ℤ) → r ≡ refusal 21 (pos e) x (pos 3) → IsForeignFirst whole i e x → Cause whole i r
-  Many : r ≡ refusal 21 (pos 0) (pos (length i.domains + length (lent i.domains))) (pos 4) → AreTooMany whole i → Cause whole i r
+  Many : r ≡ refusal 21 (pos 0) (pos (length i.domains + length (lent i.domains))) (pos 4) → AreTooMany whole i
+      → Cause whole i r
 
 abbrev pub CauseLaw : Type 0
 CauseLaw = (whole : Whole) (i : Lending) (r : Refusal) → (k21 whole i ≡ Some r) ↔ Cause whole i r

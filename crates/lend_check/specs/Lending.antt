@@ -1,5 +1,5 @@
--- What an image says of lent colours: those that a domain sets aside, each for a child that it may make while it runs, and
--- the entries that are set aside for that child.
+-- What an image says of lent colours: those that a domain sets aside, each for a child that it may make while it runs,
+-- and the entries that are set aside for that child.
 use Rattle.std.specs.Prelude.{ℕ, ◌+◌, ℤ, pos, negsuc, List, [], ◌∷◌, ◌++◌, map, slice_index_or, Option}
 use Rattle.image_record.specs.Numbers.{natural_of}
 

@@ -1,5 +1,5 @@
--- K21, the rule of lent colours: each is a colour of the memory, nobody's own, lent once and of at least seven frames; an
--- entry that is set aside is for a colour that its domain lends; and domains and lent colours are at most 16, in the
+-- K21, the rule of lent colours: each is a colour of the memory, nobody's own, lent once and of at least seven frames;
+-- an entry that is set aside is for a colour that its domain lends; and domains and lent colours are at most 16, in the
 -- second version 32.
 use Rattle.std.specs.Prelude.{◌≡◌, ℕ, ◌+◌, ◌-◌, ◌<◌, ◌≤◌, ◌||◌, nat_eq, nat_lt, ℤ, pos, Bool, true, false, if◌then◌else◌, List, [], ◌∷◌, length, slice_get, Option, Some, None}
 use Rattle.std.specs.List.{list_any}
