@@ -5,8 +5,11 @@ from __future__ import annotations
 import multiprocessing
 import os
 import shutil
+import signal
+from pathlib import Path
 
 import pytest
+from test_waiting import script
 
 from tp_sdk import spawning
 
@@ -32,6 +35,17 @@ def test_a_run_that_fails_leaves_nothing_either() -> None:
 
 def test_the_environment_is_the_one_that_is_given() -> None:
     assert spawning.run([f"{ENV}"], b"", {"ONE": "1", "TWO": "two words"}) == (0, b"ONE=1\nTWO=two words\n")
+
+
+def test_an_interrupt_as_a_run_begins_ends_it(tmp_path: Path) -> None:
+    told = tmp_path / "told"
+    program = script(tmp_path / "tp", f'#!/bin/sh\necho $$ > "{told}"\nkill -INT $PPID\nexec sleep 60\n')
+    for _ in range(TIMES // 4):
+        with pytest.raises(KeyboardInterrupt):
+            spawning.run([str(program)], b"", dict(os.environ))
+        with pytest.raises(ProcessLookupError):
+            os.kill(int(told.read_text()), 0)
+    assert signal.pthread_sigmask(signal.SIG_BLOCK, ()) == set()
 
 
 def _echoes(name: str) -> bool:

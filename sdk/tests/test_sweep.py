@@ -31,7 +31,7 @@ VICTIM = EXAMPLES / "victim.toml"
 SKELETON = EXAMPLES / "skeleton.toml"
 # A program that answers each image with the same report, and notes that it ran.
 ANSWERS = """#!/bin/sh
-cat > /dev/null
+given=$(cat)
 echo "$1" >> "{ran}"
 case $1 in
     bound) printf 'instruction 1\\noperation 1\\nleave 1\\nprefetch 1\\nflush 1\\nenter 1\\nbound 6150\\n' ;;
@@ -403,8 +403,9 @@ def test_more_than_a_million_runs_that_are_meant_begin(answers: Path) -> None:
 def test_an_interrupt_keeps_what_is_done_and_ends_the_program(tmp_path: Path) -> None:
     ran, told, out = tmp_path / "ran", tmp_path / "told", tmp_path / "a.csv"
     ran.write_text("")
-    # (the third run takes its time)
-    before = f'[ $(grep -c run "{ran}") -lt 3 ] || {{ echo $$ > "{told}"; exec sleep 60; }}'
+    # (all points but the first two take their time, in whichever order two workers come to them)
+    slow = f'echo $$ >> "{told}"; exec sleep {MOST_SECONDS}'
+    before = f'case $given in *" mem = 40,"* | *" mem = 41,"*) ;; *) {slow} ;; esac'
     answer = answering(ran, before)
     tp = script(tmp_path / "tp", answer)
     for jobs in ("1", "2"):
@@ -422,7 +423,8 @@ def test_an_interrupt_keeps_what_is_done_and_ends_the_program(tmp_path: Path) ->
             _, said = it.communicate(timeout=MOST_SECONDS)
         assert (it.returncode, said) == (130, "tp-sweep: interrupted\n")
         assert len(rows_of(out)) >= 4
-        wait_until_gone(int(told.read_text()))
+        for process in told.read_text().split():
+            wait_until_gone(int(process))
 
 
 def wait_until_gone(process: int) -> None:

@@ -9,6 +9,8 @@ from collections.abc import Mapping
 
 # What Python has ignored in itself, and other programs do not expect to be.
 _AS_EVER = [getattr(signal, name) for name in ("SIGPIPE", "SIGXFSZ") if hasattr(signal, name)]
+# What ends a run: it waits until there is somebody to end the process that begins.
+_ENDING = (signal.SIGINT, signal.SIGTERM)
 
 
 # Files that no run has now: what a run is given, and what it writes.
@@ -49,24 +51,31 @@ def _run(
     _write(source, given)
     os.lseek(source, 0, os.SEEK_SET)
     _begin(out)
-    process = os.posix_spawn(
-        command[0],
-        command,
-        environment,
-        file_actions=[
-            (os.POSIX_SPAWN_DUP2, source, 0),
-            (os.POSIX_SPAWN_DUP2, out, 1),
-            (os.POSIX_SPAWN_OPEN, 2, os.devnull, os.O_WRONLY, 0),
-        ],
-        setsigdef=_AS_EVER,
-    )
-    code = _awaited(process)
+    try:
+        mask = signal.pthread_sigmask(signal.SIG_BLOCK, _ENDING)
+        process = os.posix_spawn(
+            command[0],
+            command,
+            environment,
+            file_actions=[
+                (os.POSIX_SPAWN_DUP2, source, 0),
+                (os.POSIX_SPAWN_DUP2, out, 1),
+                (os.POSIX_SPAWN_OPEN, 2, os.devnull, os.O_WRONLY, 0),
+            ],
+            setsigmask=mask,
+            setsigdef=_AS_EVER,
+        )
+    except BaseException:
+        signal.pthread_sigmask(signal.SIG_UNBLOCK, _ENDING)
+        raise
+    code = _awaited(process, mask)
     return code, os.pread(out, os.lseek(out, 0, os.SEEK_END), 0)
 
 
-def _awaited(process: int) -> int:
-    """The exit code of a process, which ends where the wait for it is interrupted."""
+def _awaited(process: int, mask: set[int]) -> int:
+    """The exit code of a process, which ends where the wait for it is interrupted; from now on it can be."""
     try:
+        signal.pthread_sigmask(signal.SIG_SETMASK, mask)
         _, status = os.waitpid(process, 0)
     # (Ctrl-C, too)
     except BaseException:
