@@ -231,6 +231,30 @@ def test_every_call_is_every_one_that_there_is(tmp_path: Path, text: str, many: 
     assert [(len(it.calls), it.left_out) for it in bounds] == [(many, 0)] * 2
 
 
+def test_a_report_with_its_image_tells_of_boxes(tmp_path: Path, monkeypatch: pytest.MonkeyPatch) -> None:
+    monkeypatch.setenv("TP", str(tmp_path / "none"))
+    report = REPOSITORY / "examples" / "key-store.report"
+    words = (report, "--image", report.with_suffix(".toml"))
+    told = run_tool("tp-report", *words).stdout.splitlines()
+    assert [it.strip() for it in told if it.startswith("  box ")] == [
+        "box 0 to store, box 1 from store",
+        "box 2 to store",
+        "box 0 from friend, box 1 to friend, box 2 from stranger",
+    ]
+    domains = json.loads(run_tool("tp-report", *words, "--json").stdout)["domains"]
+    assert [it["boxes"] for it in domains[1:]] == [
+        [{"number": 2, "from": "stranger", "to": "store"}],
+        [
+            {"number": 0, "from": "friend", "to": "store"},
+            {"number": 1, "from": "store", "to": "friend"},
+            {"number": 2, "from": "stranger", "to": "store"},
+        ],
+        [],
+    ]
+    # a report alone tells of none
+    assert "box " not in run_tool("tp-report", report).stdout.replace("no box ", "")
+
+
 def test_the_key_store_tells_its_friend_alone(program: Program) -> None:
     text = (REPOSITORY / "examples" / "key-store.toml").read_text()
     told = {}
