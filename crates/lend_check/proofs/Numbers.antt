@@ -1,19 +1,21 @@
 -- How parties are numbered.
-use Rattle.std.proofs.Common.{◌≡◌, ℕ, zero, suc, ◌+◌, ◌<◌, ◌≤◌, Bool, true, false, ◌&&◌, List, [], ◌∷◌, ◌++◌, length, map, take, drop, get_or, Option, Some, None, refl, sym, ap, ap₂, ◌∙◌, arith, ◌-◌, ◌⊎◌, inl, inr, eqb-true, cond}
-use Rattle.std.specs.Prelude.{ℤ, pos, negsuc, nat_eq, nat_lt, if◌then◌else◌, option_map}
-use Rattle.std.specs.List.{position, position_from}
+use Rattle.std.proofs.Common.{subst, ◌≡◌, ℕ, zero, suc, ◌+◌, ◌<◌, ◌≤◌, Bool, true, false, ◌&&◌, List, [], ◌∷◌, ◌++◌, length, map, take, drop, get_or, Option, Some, None, refl, sym, ap, ap₂, ◌∙◌, arith, ◌-◌, ◌⊎◌, inl, inr, eqb-true, cond}
+use Rattle.std.specs.Prelude.{slice_get, ℤ, pos, negsuc, nat_eq, nat_lt, if◌then◌else◌, option_map}
+use Rattle.std.specs.List.{position, position_from, sum_by}
 use Rattle.std.proofs.lemmas.Bool.{cases_lt, ltb-true}
 use Rattle.std.proofs.lemmas.Bool.Decides.{nat_tests}
-use Rattle.std.proofs.lemmas.List.{append_assoc, append-nil, take-map, drop-map, drop_more, length-append, length-map, length-take, get_or-map, get_or_append_left, get_or-append-add}
+use Rattle.std.proofs.lemmas.List.{append_assoc, append-nil, take-map, drop-map, drop_more, length-append, length-map, length-take, get_or-map, get_or_append_left, get_or-append-add, get_or_past}
+use Rattle.std.proofs.lemmas.List.Sums.{sum_by-cons}
+use Rattle.std.proofs.lemmas.Option.{slice_get_within, slice_get-get_or, get_or_from_slice_get}
 use Rattle.std.proofs.lemmas.Iterator.Adapters.{position_from-zero}
 use Rattle.image_record.specs.Numbers.{IsNatural, natural_of, is_same, names}
 use Rattle.image_record.specs.Cases.{or_else, first_case, first_in}
 use Rattle.image_record.proofs.FirstCases.{first_in_none}
 use Rattle.image_record.proofs.Listed.{stands}
 use Rattle.image_record.proofs.Loops.{count_of}
-use Rattle.lend_check.specs.Lending.{LendingDomain, LendingEntry, domain_at, lend_of, lent_by, lent_from, said, in_naturals}
+use Rattle.lend_check.specs.Lending.{no_domain, LendingDomain, LendingEntry, domain_at, lend_of, lent_by, lent_from, said, in_naturals}
 use Rattle.lend_check.specs.Parties.{parties, is_child, if_child, child_number, Party, Domain, Child, number_of, party_of, party_by}
-use Rattle.lend_check.specs.Laws.{ChildLaw, DistinctLaw, CountLaw, LimitLaw, EachLaw, EntryLaw}
+use Rattle.lend_check.specs.Laws.{OrderLaw, ChildLaw, DistinctLaw, CountLaw, LimitLaw, EachLaw, EntryLaw}
 use Rattle.lend_check.proofs.Firsts.{First, first_of, is_first, case_append}
 use Rattle.lend_check.proofs.Walks.{halves, split}
 use Rattle.lend_check.proofs.Kept.{no_colour, said_at, At, at, get_lent}
@@ -187,8 +189,11 @@ each_number whole i n a l = either (cases_lt n (length i.domains))
 
 -- ---- where the colours of a domain stand
 
-record Stands (ls : List (ℕ × ℤ)) (l : ℕ × ℤ) : Type 0 where
-  pub place : ℕ
+-- how many are lent before domain d
+abbrev before : List LendingDomain → ℕ → ℕ
+before os d = sum_by (λ o. length o.lend) (take d os)
+
+record Stands (ls : List (ℕ × ℤ)) (place : ℕ) (l : ℕ × ℤ) : Type 0 where
   pub within : place < length ls
   pub is : get_or ls place no_colour ≡ l
 
@@ -197,31 +202,63 @@ abbrev pair : ℕ → ℤ → ℕ × ℤ
 pair d x = (d, x)
 
 stands_from : (b : ℕ) (os : List LendingDomain) (d k : ℕ) → d < length os → k < length (domain_at os d).lend
-    → Stands (lent_from b os) (b + d, get_or (domain_at os d).lend k (pos 0))
+    → Stands (lent_from b os) (before os d + k) (b + d, get_or (domain_at os d).lend k (pos 0))
 stands_from b [] d k l m = absurd (omega (arith, l))
 stands_from b (o ∷ os) zero k l m =
     let own = lent_by b o.lend in
     let within : k < length own = omega (arith, m, length-map o.lend (pair b)) in
     let number : b ≡ b + 0 = omega arith in
+    let place : k ≡ before (o ∷ os) zero + k = omega arith in
+    let l : ℕ × ℤ = (b + 0, get_or o.lend k (pos 0)) in
+    let here : Stands (lent_from b (o ∷ os)) k l =
     record {
-      place = k;
       within = omega (arith, within, length-append own (lent_from (b + 1) os));
       is =
           get_or_append_left own (lent_from (b + 1) os) no_colour k within
           ∙ get_or-map (pair b) o.lend k (pos 0) no_colour m
           ∙ ap (λ (n : ℕ). (n, get_or o.lend k (pos 0))) number;
-    }
+    } in
+    subst (λ (n : ℕ). Stands (lent_from b (o ∷ os)) n l) place here
 stands_from b (o ∷ os) (suc d) k l m =
     let own = lent_by b o.lend in
     let rest = stands_from (b + 1) os d k (omega (arith, l)) m in
     let number : b + 1 + d ≡ b + suc d = omega arith in
+    let long = length-map o.lend (pair b) in
+    let sum : before (o ∷ os) (suc d) ≡ length o.lend + before os d = sum_by-cons (λ p. length p.lend) o (take d os) in
+    let place : length own + (before os d + k) ≡ before (o ∷ os) (suc d) + k = omega (arith, long, sum) in
+    let l : ℕ × ℤ = (b + suc d, get_or (domain_at os d).lend k (pos 0)) in
+    let here : Stands (lent_from b (o ∷ os)) (length own + (before os d + k)) l =
     record {
-      place = length own + rest.place;
       within = omega (arith, rest.within, length-append own (lent_from (b + 1) os));
       is =
-          get_or-append-add own (lent_from (b + 1) os) rest.place no_colour ∙ rest.is
+          get_or-append-add own (lent_from (b + 1) os) (before os d + k) no_colour ∙ rest.is
           ∙ ap (λ (n : ℕ). (n, get_or (domain_at os d).lend k (pos 0))) number;
-    }
+    } in
+    subst (λ (n : ℕ). Stands (lent_from b (o ∷ os)) n l) place here
+
+stands_at : (domains : List LendingDomain) (d k : ℕ) → d < length domains → k < length (domain_at domains d).lend
+    → Stands (said domains) (before domains d + k) (d, get_or (domain_at domains d).lend k (pos 0))
+stands_at domains d k l m =
+    let number : 0 + d ≡ d = omega arith in
+    let x = get_or (domain_at domains d).lend k (pos 0) in
+    subst (λ (n : ℕ). Stands (said domains) (before domains d + k) (n, x)) number (stands_from 0 domains d k l m)
+
+pub in_order : OrderLaw
+in_order domains d k x e = either (cases_lt d (length domains))
+  where
+    P : LendingDomain → Type 0
+    P o = slice_get o.lend k ≡ Some x
+
+    either : (d < length domains) ⊎ (length domains ≤ d)
+        → slice_get (said domains) (before domains d + k) ≡ Some (d, x)
+    either (inl l) =
+        let own = (domain_at domains d).lend in
+        let s = stands_at domains d k l (slice_get_within own k x e) in
+        slice_get-get_or (said domains) (before domains d + k) no_colour s.within
+        ∙ ap Some (s.is ∙ ap (λ (y : ℤ). (d, y)) (get_or_from_slice_get own k x (pos 0) e))
+    either (inr past) =
+        let nothing : slice_get [] k ≡ Some x = subst P (get_or_past domains d no_domain past) e in
+        absurd (omega (arith, slice_get_within [] k x nothing))
 
 has_number : (domains : List LendingDomain) (d : ℕ) (x : ℤ) → d < length domains
     → names (domain_at domains d).lend x ≡ true
@@ -234,14 +271,14 @@ has_number domains d x l named = by_case (first_in (if_child (d, x)) (said domai
     by_case (Some k) is = (length domains + k, ap (option_map (λ j. length domains + j)) is)
     by_case None is =
         let at_colour = stands (domain_at domains d).lend x named in
-        let s = stands_from 0 domains d at_colour.place l at_colour.within in
-        let zero_sum : 0 + d ≡ d = omega arith in
-        let other : said_at domains s.place ≡ (d, x) = s.is ∙ ap₂ (λ (n : ℕ) (y : ℤ). (n, y)) zero_sum at_colour.same in
-        let none = first_in_none (if_child (d, x)) (said domains) is s.place s.within no_colour in
+        let place = before domains d + at_colour.place in
+        let s = stands_at domains d at_colour.place l at_colour.within in
+        let other : said_at domains place ≡ (d, x) = s.is ∙ ap (λ (y : ℤ). (d, y)) at_colour.same in
+        let none = first_in_none (if_child (d, x)) (said domains) is place s.within no_colour in
         let test = ap (is_child (d, x)) other ∙ child_itself (d, x) in
-        let some : if_child (d, x) (take s.place (said domains)) (said_at domains s.place)
-        ≡ Some (length (take s.place (said domains))) = rw test refl in
-        absurd (is_some (length (take s.place (said domains))) (sym some ∙ none))
+        let some : if_child (d, x) (take place (said domains)) (said_at domains place)
+        ≡ Some (length (take place (said domains))) = rw test refl in
+        absurd (is_some (length (take place (said domains))) (sym some ∙ none))
       where
         is_some : (n : ℕ) → Some n ≡ None → ⊥
         is_some n e = cc

@@ -1,11 +1,12 @@
 -- The rule of lent colours in other words: when it lets an image through, and why it refuses one; and how parties are
 -- numbered.
 use Rattle.std.specs.Prelude.{◌≡◌, ℕ, ◌+◌, ◌<◌, ◌≤◌, ◌↔◌, ℤ, pos, true, false, List, map, length, take, slice_get, Some, None}
+use Rattle.std.specs.List.{sum_by}
 use Rattle.frame_colours.specs.Colours.{Whole, has}
 use Rattle.image_record.specs.declared.refusal.Refusal.{Refusal}
 use Rattle.image_record.specs.Numbers.{natural_of, names}
 use Rattle.image_record.specs.Cases.{refusal}
-use Rattle.lend_check.specs.Lending.{LendingDomain, LendingEntry, Lending, lend_of, own_colours, said, lent}
+use Rattle.lend_check.specs.Lending.{LendingDomain, LendingEntry, Lending, domain_at, lend_of, own_colours, said, lent}
 use Rattle.lend_check.specs.Parties.{parties, Party, Child, number_of, party_of}
 use Rattle.lend_check.specs.Rule.{IsOfDomain, frames_of, least_frames, most_parties, k21, AreLent}
 
@@ -75,6 +76,11 @@ abbrev pub CauseLaw : Type 0
 CauseLaw = (whole : Whole) (i : Lending) (r : Refusal) → (k21 whole i ≡ Some r) ↔ Cause whole i r
 
 -- ---- parties
+
+-- the colours of a domain's list come in its order, after those of the domains before it
+abbrev pub OrderLaw : Type 0
+OrderLaw = (domains : List LendingDomain) (d k : ℕ) (x : ℤ) → slice_get (domain_at domains d).lend k ≡ Some x
+    → slice_get (said domains) (sum_by (λ o. length o.lend) (take d domains) + k) ≡ Some (d, x)
 
 -- a lent colour's child has the number of domains and the colour's place
 abbrev pub ChildLaw : Type 0

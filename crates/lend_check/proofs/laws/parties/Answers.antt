@@ -1,5 +1,8 @@
-use Rattle.lend_check.proofs.Numbers.{child_is, distinct, counted, below, each_number, entry_number}
+use Rattle.lend_check.proofs.Numbers.{in_order, child_is, distinct, counted, below, each_number, entry_number}
 use Rattle.lend_check.proofs.laws.parties.Goals as goal
+
+pub returns-clause-order : goal.returns-clause-order
+returns-clause-order c = in_order
 
 pub returns-clause-child : goal.returns-clause-child
 returns-clause-child c = child_is
