@@ -1,0 +1,6 @@
+pub mod Alone
+pub mod Beside
+pub mod Times
+pub mod Logs
+pub mod Theorems
+pub mod Moments

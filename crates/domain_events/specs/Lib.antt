@@ -1,0 +1,3 @@
+-- The events of a domain.
+pub mod Events
+pub mod Laws
