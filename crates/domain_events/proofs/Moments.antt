@@ -1,5 +1,5 @@
 -- What holds of a domain's events at every moment, in its slots too.
-use Rattle.std.proofs.Common.{◌≡◌, ℕ, ◌-◌, Bool, true, false, eqb, eq-eqb, List, ◌∷◌, ◌++◌, length-append, ap, sym, ◌∙◌, refl, subst, arith}
+use Rattle.std.proofs.Common.{◌≡◌, ℕ, ◌-◌, Bool, true, false, eqb, eqb-true, eq-eqb, true≢false, ◌≢◌, ◌⊎◌, inl, inr, List, [], ◌∷◌, ◌++◌, length-append, ap, sym, ◌∙◌, refl, subst, arith}
 use Rattle.std.specs.List.{All}
 use Rattle.std.proofs.lemmas.List.{get_or_append_left}
 use Rattle.std.proofs.lemmas.List.Elements.{All-push}
@@ -14,9 +14,9 @@ use Rattle.world_view.proofs.opening.Separate.{separated}
 use Rattle.world_view.proofs.harts.Events.{IsHart, IsInside}
 use Rattle.world_view.proofs.harts.Runs.{Running, home}
 use Rattle.world_view.proofs.harts.Isolation.{running}
-use Rattle.domain_events.specs.Events.{Observed, Slot, observed, events_until, logged}
-use Rattle.domain_events.specs.Laws.{Follow, IsInLast, NowLaw, Takes, WholePriceLaw}
-use Rattle.domain_events.proofs.Alone.{until_step}
+use Rattle.domain_events.specs.Events.{Observed, Slot, observed, events_until, slot_from, logged}
+use Rattle.domain_events.specs.Laws.{Follow, IsInLast, PastLaw, NowLaw, Takes, WholePriceLaw}
+use Rattle.domain_events.proofs.Alone.{until_step, one_slot_more}
 use Rattle.domain_events.proofs.Times.{adds, takes, all_in, follow_in, follow_front, price_law}
 use Rattle.domain_events.proofs.Logs.{InOwn, LogIn, LogAt, slots, slot_with, entered}
 use Rattle.domain_events.proofs.Theorems.{logs}
@@ -59,6 +59,19 @@ module _ (i : Image) (r : Runnable i) (d : ℕ) (id : IsDomain i d) where
   priced order below =
       let s = harts i order in
       priced_at (arrivals d s.world) (progress_of h s).inside (slots_of h s) (part_of h d s.world) (logged i d order) (logs i r d id order below)
+
+  -- ---- in another's slot, or in none
+
+  past_in : (came : List Arrival) (b : Bool) (k : ℕ) (x : Local) (log : List Slot) → eqb (domain_in i h k) d ≡ b
+      → domain_in i h k ≢ d → LogIn i r d id came b k x log → log ≡ slots i r d id came k
+  past_in came true k x log t other m = absurd (other (eqb-true (domain_in i h k) d t))
+  past_in came false k x log t other m = m
+
+  past_at : (came : List Arrival) (b : Bool) (k : ℕ) (x : Local) (log : List Slot)
+      → (b ≡ false) ⊎ (domain_in i h k ≢ d) → LogAt i r d id came b k x log → log ≡ slots i r d id came k
+  past_at came false k x log where_it_is m = m
+  past_at came true k x log (inl out) m = absurd (true≢false out)
+  past_at came true k x log (inr other) m = past_in came (eqb (domain_in i h k) d) k x log refl other m
 
   -- ---- in a slot of the domain
 
@@ -103,14 +116,27 @@ module _ (i : Image) (r : Runnable i) (d : ℕ) (id : IsDomain i d) where
         subst (Follow first.clock own.done) (sym now)
         (follow_front own.done first.clock (stretch w end first).clock (observed w end own.a) (events_until w end (step w end own.a)) all)
 
-    in_last : IsInLast i h s log
-    in_last = record {
-      before = slots i r d id came k;
-      last = slot_with i r d id came k own.done;
-      logged = own.logged;
-      number = refl;
-      adds_up = record { follow = follows; sum = adds own.done (entered i r d id came k).clock (clock_of h s.world) follows };
-    }
+    in_last : IsInLast i d s log
+    unfolding slot_from
+    in_last =
+        let rest = events_until (setting i.all.hardware (own_of i d) true) (end_on i h k) own.a in
+        record {
+          last = slot_with i r d id came k own.done;
+          rest = rest;
+          logged = own.logged;
+          alone =
+              one_slot_more (public_on i.all h) (own_of i d) d came k (eq-eqb (domain_in i h k) d its)
+              ∙ ap (λ (events : List Observed). slots i r d id came k ++ slot_with i r d id came k events ∷ []) (sym own.left);
+          number = refl;
+          adds_up = record { follow = follows; sum = adds own.done (entered i r d id came k).clock (clock_of h s.world) follows };
+        }
+
+pub past_law : PastLaw
+past_law i d order r id below where_it_is =
+    let h = hart_of_domain i d in
+    let s = harts i order in
+    past_at i r d id (arrivals d s.world) (progress_of h s).inside (slots_of h s) (part_of h d s.world) (logged i d order) where_it_is
+    (logs i r d id order below)
 
 pub now_law : NowLaw
 now_law i d order r id below within its = in_last i r d id order below within its

@@ -17,10 +17,14 @@ use Rattle.world_view.specs.Kernel.{estate, layout}
 use Rattle.world_view.specs.Mail.{turns, nth_of}
 use Rattle.world_view.specs.Event.{instruction, delivery_touches, Event, event}
 use Rattle.world_view.specs.Event.Event.{Jump, Deliver, Run}
-use Rattle.world_view.specs.Machine.{Setting, setting, Local, paid, delivered, happened, step, steps, alone_enter, alone_in, alone_mail}
-use Rattle.world_view.proofs.steps.Fuel.{JumpsPast, event_later}
+use Rattle.world_view.specs.Machine.{Setting, setting, Local, paid, delivered, happened, step, steps, stretch, alone_enter, alone_in, alone_mail}
+use Rattle.world_view.proofs.steps.Fuel.{IsTimed, JumpsPast, event_later, step_later}
+use Rattle.world_view.proofs.opening.Separate.{separated}
+use Rattle.image_check.specs.Image.{own_of}
+use Rattle.world_view.specs.Harts.{public_on}
+use Rattle.std.proofs.lemmas.Bool.{ltb-false}
 use Rattle.domain_events.specs.Events.{Observed, Slot, happening, counted, observed, events_in, events_until, slot_from, slots_mailed}
-use Rattle.domain_events.specs.Laws.{Follow, AddsUp, clock_alone, CyclesLaw, IsOwnSlot, AreOwnSlots, OwnSlotsLaw, Takes, PriceLaw}
+use Rattle.domain_events.specs.Laws.{Follow, AddsUp, clock_alone, CyclesLaw, Fills, FillsLaw, IsOwnSlot, AreOwnSlots, OwnSlotsLaw, Takes, PriceLaw}
 use Rattle.domain_events.proofs.Alone.{one_slot_more, no_slot_more}
 
 -- ---- one event
@@ -115,6 +119,22 @@ pub follow_front : (events : List Observed) (now end : ℕ) (e : Observed) (rest
 follow_front [] now end e rest follow = sym follow.0
 follow_front (x ∷ events) now end e rest follow = (follow.0, follow_front events (now + x.cycles) end e rest follow.1)
 
+-- steps go on until the end
+module _ (w : Setting) (timed : IsTimed w.machine) (end : ℕ) where
+  reach_if : (b : Bool) (x y : Local) → (b ≡ true → end ≤ x.clock) → (b ≡ false → end ≤ y.clock)
+      → let last : Local = elim b [ true ↦ x | false ↦ y ] in end ≤ last.clock
+  reach_if true x y goes stops = goes refl
+  reach_if false x y goes stops = stops refl
+
+  pub reaches : (n : ℕ) (s : Local) → end - s.clock ≤ n → end ≤ (steps w end n s).clock
+  unfolding steps
+  reaches zero s few = omega (arith, few)
+  reaches (suc n) s few =
+      reach_if (ltb s.clock end) (steps w end n (step w end s)) s
+      (λ t. let later = step_later w timed end s (ltb-true s.clock end t) in
+      reaches n (step w end s) (omega (arith, few, later)))
+      (λ t. ltb-false s.clock end t)
+
 -- ---- slots
 
 module _ (p : Public) (o : Own) (d : ℕ) (came : List Arrival) where
@@ -157,6 +177,26 @@ module _ (p : Public) (o : Own) (d : ℕ) (came : List Arrival) where
       let end = slot_end p.schedule k in
       let s = entered k in
       all_in (setting p.hardware o true) end (Takes p.hardware.costs) (takes p.hardware o true end) (end - s.clock) s
+
+  early_of_slot : (k : ℕ) → All (λ (e : Observed). e.at < slot_end p.schedule (slot k).number) (slot k).events
+  unfolding slot_from observed
+  early_of_slot k =
+      let end = slot_end p.schedule k in
+      let s = entered k in
+      all_in (setting p.hardware o true) end (λ (e : Observed). e.at < end) (λ t soon. soon) (end - s.clock) s
+
+  fills : IsTimed p.hardware → (k : ℕ) → Fills p (slot k)
+  unfolding slot_from
+  fills timed k =
+      let w = setting p.hardware o true in
+      let end = slot_end p.schedule k in
+      let s = entered k in
+      let sum = adds (events_until w end s) s.clock (stretch w end s).clock (follow_in w end (end - s.clock) s) in
+      let far = reaches w timed end (end - s.clock) s (omega arith) in
+      record { early = early_of_slot k; full = omega (arith, sum, far) }
+
+  pub all_fill : IsTimed p.hardware → (k : ℕ) → All (Fills p) (slots_mailed p o d came k)
+  all_fill timed = all_slots (Fills p) (fills timed)
 
   -- ---- which they are
 
@@ -202,6 +242,9 @@ module _ (p : Public) (o : Own) (d : ℕ) (came : List Arrival) where
 
 pub cycles_law : CyclesLaw
 cycles_law p o d came = all_slots p o d came (λ (x : Slot). AddsUp (clock_alone p o d came x.number) x) (cycles_of_slot p o d came)
+
+pub fills_law : FillsLaw
+fills_law i h d came k r = all_fill (public_on i.all h) (own_of i d) d came (separated i r).timed k
 
 pub own_slots_law : OwnSlotsLaw
 own_slots_law p o d came k = own_slots p o d came k

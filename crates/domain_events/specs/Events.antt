@@ -1,6 +1,6 @@
 -- The events of a domain in its slots, each with its time and with what it counted: alone, and on the whole machine.
 use Rattle.std.specs.Prelude.{ℕ, zero, suc, ◌-◌, ◌==◌, nat_lt, true, false, if◌then◌else◌, List, [], ◌∷◌, ◌++◌}
-use Rattle.mem_system.specs.Tally.{Tally, none, tally_all}
+use Rattle.mem_system.specs.Tally.{Tally, none, plus, tally_all}
 use Rattle.thread_set.specs.Threads.{current_number}
 use Rattle.call_table.specs.Domain.{Dom}
 use Rattle.mail_slots.specs.Sides.{Arrival}
@@ -69,6 +69,11 @@ events_in w end (suc n) s = if nat_lt s.clock end then observed w end s ∷ even
 -- those of a stretch
 abbrev pub events_until : Setting → ℕ → Local → List Observed
 events_until w end s = events_in w end (end - s.clock) s
+
+-- what all of them counted
+unfoldable pub total : List Observed → Tally
+total [] = none
+total (e ∷ events) = plus e.counts (total events)
 
 -- ---- alone
 

@@ -1,20 +1,31 @@
 -- The laws of a domain's events; they are the clauses of functions of `laws`.
-use Rattle.std.specs.Prelude.{◌≡◌, ℕ, ◌+◌, ◌<◌, List, [], ◌∷◌, ◌++◌, length, sum_by}
+use Rattle.std.specs.Prelude.{◌≡◌, ◌≢◌, ℕ, zero, suc, ◌+◌, ◌<◌, ◌≤◌, ◌⊎◌, nat_lt, Bool, true, false, if◌then◌else◌, List, [], ◌∷◌, ◌++◌, length, sum_by, slice_get, Some}
 use Rattle.std.specs.List.{All, AllPairs}
 use Rattle.cycle_cost.specs.Costs.{CostTable}
-use Rattle.mem_system.specs.Tally.{none, price}
+use Rattle.irq_partition.specs.declared.Moment.{Moment}
+use Rattle.sv32_walk.specs.declared.access.Access.TheVariants.{Fetch}
+use Rattle.sv32_walk.specs.Walk.{walk}
+use Rattle.mem_system.specs.Cost.{Touch}
+use Rattle.mem_system.specs.Tally.{none, price, tally_all}
+use Rattle.mem_system.specs.Translation.{look_of}
+use Rattle.thread_set.specs.Threads.{is_ready, thread_at}
+use Rattle.call_table.specs.Domain.{is_running}
 use Rattle.mail_slots.specs.Sides.{Arrival}
+use Rattle.hardware_check.specs.Hardware.{Hardware}
 use Rattle.image_check.specs.Public.{Public}
 use Rattle.image_check.specs.Own.{Own}
 use Rattle.image_check.specs.Image.{Image, own_of}
 use Rattle.image_check.specs.Laws.{Runnable}
-use Rattle.sched_table.specs.Schedule.{entry_of_slot, start}
+use Rattle.sched_table.specs.Schedule.{entry_of_slot, start, slot_end}
+use Rattle.world_view.specs.Frames.{root_of}
+use Rattle.world_view.specs.Cost.{hierarchy}
 use Rattle.world_view.specs.Mail.{turns, nth_of}
-use Rattle.world_view.specs.Machine.{clock_of, arrivals, alone_in, alone_mail}
+use Rattle.world_view.specs.Machine.{Local, setting, step, clock_of, arrivals, alone_in, alone_mail}
+use Rattle.world_view.specs.EventLaws.{step_touches}
 use Rattle.world_view.specs.Relations.{IsDomain, HasNoMail, Agree}
-use Rattle.world_view.specs.Harts.{Harts, IsInSlot, domain_on, public_on, hart_of_domain, slots_of, harts}
+use Rattle.world_view.specs.Harts.{Harts, IsInSlot, IsOutside, domain_on, public_on, hart_of_domain, slots_of, harts}
 use Rattle.world_view.specs.HartLaws.{AreHartsOf, IsBetween}
-use Rattle.domain_events.specs.Events.{Happening, Observed, Slot, slots_mailed, logged}
+use Rattle.domain_events.specs.Events.{Happening, Observed, Slot, observed, events_in, total, slots_mailed, logged}
 use Rattle.domain_events.specs.Events.Happening.{Ran, Delivered, Jumped}
 
 -- ---- among others and alone
@@ -66,19 +77,44 @@ abbrev pub CyclesLaw : Type 0
 CyclesLaw = (p : Public) (o : Own) (d : ℕ) (came : List Arrival) (k : ℕ)
     → All (λ x. AddsUp (clock_alone p o d came x.number) x) (slots_mailed p o d came k)
 
--- of the slots that have begun, the last is the one that the hart is in, and its events so far add up to the clock
-pub record IsInLast (i : Image) (h : ℕ) (s : Harts) (log : List Slot) : Type 0 where
-  pub before : List Slot
+-- each begins before its slot's end, and they go on until then: so an event that passes it is the last, and whole
+pub record Fills (p : Public) (x : Slot) : Type 0 where
+  pub early : All (λ e. e.at < slot_end p.schedule x.number) x.events
+  pub full : slot_end p.schedule x.number ≤ x.begins + sum_by (λ e. e.cycles) x.events
+
+abbrev pub FillsLaw : Type 0
+FillsLaw = (i : Image) (h d : ℕ) (came : List Arrival) (k : ℕ) → Runnable i
+    → All (Fills (public_on i.all h)) (slots_mailed (public_on i.all h) (own_of i d) d came k)
+
+-- ---- at every moment
+
+-- those of the domain alone before slot k of its hart, with what has come so far
+abbrev pub slots_on : Image → ℕ → Harts → ℕ → List Slot
+slots_on i d s k =
+    slots_mailed (public_on i.all (hart_of_domain i d)) (own_of i d) d (arrivals d s.world) k
+
+-- so it is while its hart is in no slot, or in another's
+abbrev pub PastLaw : Type 0
+PastLaw = (i : Image) (d : ℕ) (order : List ℕ) → Runnable i → IsDomain i d → AreHartsOf i order →
+    let h = hart_of_domain i d in
+    let s = harts i order in
+    IsOutside h s ⊎ (domain_on i h s ≢ d) → logged i d order ≡ slots_on i d s (slots_of h s)
+
+-- in its own slot, of which these are the events so far, they are a front of those that it has there alone
+pub record IsInLast (i : Image) (d : ℕ) (s : Harts) (log : List Slot) : Type 0 where
   pub last : Slot
-  pub logged : log ≡ before ++ last ∷ []
-  pub number : last.number ≡ slots_of h s
-  pub adds_up : AddsUp (clock_of h s.world) last
+  pub rest : List Observed
+  pub logged : log ≡ slots_on i d s (slots_of (hart_of_domain i d) s) ++ last ∷ []
+  pub alone : slots_on i d s (suc (slots_of (hart_of_domain i d) s))
+      ≡ slots_on i d s (slots_of (hart_of_domain i d) s) ++ record last { events = last.events ++ rest } ∷ []
+  pub number : last.number ≡ slots_of (hart_of_domain i d) s
+  pub adds_up : AddsUp (clock_of (hart_of_domain i d) s.world) last
 
 abbrev pub NowLaw : Type 0
 NowLaw = (i : Image) (d : ℕ) (order : List ℕ) → Runnable i → IsDomain i d → AreHartsOf i order →
     let h = hart_of_domain i d in
     let s = harts i order in
-    IsInSlot h s → domain_on i h s ≡ d → IsInLast i h s (logged i d order)
+    IsInSlot h s → domain_on i h s ≡ d → IsInLast i d s (logged i d order)
 
 -- ---- which slots
 
@@ -119,3 +155,58 @@ PriceLaw = (p : Public) (o : Own) (d : ℕ) (came : List Arrival) (k : ℕ)
 abbrev pub WholePriceLaw : Type 0
 WholePriceLaw = (i : Image) (d : ℕ) (order : List ℕ) → Runnable i → IsDomain i d → AreHartsOf i order
     → All (λ x. All (Takes i.all.hardware.costs) x.events) (logged i d order)
+
+-- ---- what happened, in the words of threads and moments
+
+-- the thread was current, and ready; its instruction there was looked up first
+pub record RanSo (p : Hardware) (o : Own) (s : Local) (touches : List Touch) (thread pc : ℕ) : Type 0 where
+  pub running : is_running s.dom.status ≡ true
+  pub current : thread_at s.dom.threads thread ≡ s.dom.threads.current
+  pub ready : is_ready (thread_at s.dom.threads thread).state ≡ true
+  pub there : (thread_at s.dom.threads thread).pc ≡ pc
+  pub more : List Touch
+  pub looked_up : touches ≡ look_of p.line pc (walk s.storage.mem p.frames (root_of p o) pc Fetch) ∷ more
+
+-- the domain's next moment, whose cycle had come, was of this line, and is delivered
+pub record DeliveredSo (o : Own) (s later : Local) (line : ℕ) : Type 0 where
+  pub running : is_running s.dom.status ≡ true
+  pub moment : Moment
+  pub next : slice_get o.moments s.dom.delivered ≡ Some moment
+  pub come : moment.at ≤ s.clock
+  pub its_line : moment.line ≡ line
+  pub delivered : later.dom.delivered ≡ s.dom.delivered + 1
+
+-- the domain was ended, or had no thread that could go on; nothing changed but the clock
+pub record JumpedSo (end : ℕ) (s later : Local) (t : ℕ) : Type 0 where
+  pub idle : (is_running s.dom.status ≡ false) ⊎ (is_ready s.dom.threads.current.state ≡ false)
+  pub past : s.clock < t
+  pub within : t ≤ end
+  pub nothing_else : later ≡ record s { clock = t }
+
+-- by what happened, to which this is what was touched and what is left
+abbrev pub SeenSo : Hardware → Own → ℕ → Local → List Touch → Local → Happening → Type 0
+SeenSo p o end s touches later (Ran thread pc) = RanSo p o s touches thread pc
+SeenSo p o end s touches later (Delivered line) = DeliveredSo o s later line
+SeenSo p o end s touches later (Jumped t) = JumpedSo end s later t
+
+-- alone, where the kernel's lines are pinned, and among others, where they aren't
+abbrev pub SeenLaw : Type 0
+SeenLaw = (p : Hardware) (o : Own) (pinned : Bool) (end : ℕ) (s : Local) → s.clock < end →
+    let w = setting p o pinned in
+    SeenSo p o end s (step_touches p o end s) (step w end s) (observed w end s).what
+
+-- ---- what a stretch counts
+
+-- all touches of as many steps, at most, while the clock is below the end
+unfoldable pub touches_in : Hardware → Own → Bool → ℕ → ℕ → Local → List Touch
+touches_in p o pinned end zero s = []
+touches_in p o pinned end (suc n) s =
+    if nat_lt s.clock end
+    then step_touches p o end s ++ touches_in p o pinned end n (step (setting p o pinned) end s)
+    else []
+
+-- event by event nothing is lost, and nothing is counted twice
+abbrev pub TotalLaw : Type 0
+TotalLaw = (p : Hardware) (o : Own) (pinned : Bool) (end n : ℕ) (s : Local)
+    → total (events_in (setting p o pinned) end n s)
+    ≡ tally_all (hierarchy p) pinned s.caches (touches_in p o pinned end n s)
