@@ -1,3 +1,4 @@
 -- The events of a domain.
 pub mod Events
 pub mod Laws
+pub mod Example
