@@ -2,6 +2,8 @@ pub mod Alone
 pub mod Beside
 pub mod Times
 pub mod Seen
+pub mod Calls
+pub mod Retired
 pub mod Logs
 pub mod Theorems
 pub mod Moments

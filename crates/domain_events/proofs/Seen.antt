@@ -33,7 +33,7 @@ use Rattle.domain_events.specs.Laws.{RanSo, SeenSo, SeenLaw, touches_in, TotalLa
 -- ---- when each happens
 
 module _ (o : Own) (now : ℕ) (d : Dom) where
-  abbrev Comes : Event → Type 0
+  abbrev pub Comes : Event → Type 0
   Comes (Jump t) = (is_running d.status ≡ false) ⊎ (is_ready d.threads.current.state ≡ false)
   Comes (Deliver line) = (is_running d.status ≡ true) × (due now (interrupts_of o d) ≡ Some line)
   Comes Run = (is_running d.status ≡ true) × (is_ready d.threads.current.state ≡ true)
@@ -50,7 +50,7 @@ module _ (o : Own) (now : ℕ) (d : Dom) where
   running_comes end true e is comes = comes refl
   running_comes end false e is comes = inl is
 
-  event_comes : (end : ℕ) → Comes (event o now end d)
+  pub event_comes : (end : ℕ) → Comes (event o now end d)
   unfolding event
   event_comes end =
       running_comes end (is_running d.status) _ refl

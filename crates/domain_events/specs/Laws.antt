@@ -1,14 +1,18 @@
 -- The laws of a domain's events; they are the clauses of functions of `laws`.
-use Rattle.std.specs.Prelude.{◌≡◌, ◌≢◌, ℕ, zero, suc, ◌+◌, ◌<◌, ◌≤◌, ◌⊎◌, nat_lt, Bool, true, false, if◌then◌else◌, List, [], ◌∷◌, ◌++◌, length, sum_by, slice_get, Some}
+use Rattle.std.specs.Prelude.{◌≡◌, ◌≢◌, ℕ, zero, suc, ◌+◌, ◌-◌, ◌<◌, ◌≤◌, ◌==◌, ◌⊎◌, nat_lt, Bool, true, false, if◌then◌else◌, List, [], ◌∷◌, ◌++◌, length, sum_by, slice_get, Option, Some}
 use Rattle.std.specs.List.{All, AllPairs}
 use Rattle.cycle_cost.specs.Costs.{CostTable}
 use Rattle.irq_partition.specs.declared.Moment.{Moment}
 use Rattle.sv32_walk.specs.declared.access.Access.TheVariants.{Fetch}
 use Rattle.sv32_walk.specs.Walk.{walk}
+use Rattle.rv_decode.specs.declared.Instr.{Instr}
+use Rattle.rv_decode.specs.declared.Instr.TheVariants.{Ecall}
 use Rattle.mem_system.specs.Cost.{Touch}
-use Rattle.mem_system.specs.Tally.{none, price, tally_all}
+use Rattle.mem_system.specs.Tally.{none, one_if, price, tally_all}
 use Rattle.mem_system.specs.Translation.{look_of}
 use Rattle.thread_set.specs.Threads.{is_ready, thread_at}
+use Rattle.call_table.specs.declared.DomainStatus.{DomainStatus}
+use Rattle.call_table.specs.declared.DomainStatus.TheVariants.{Stopped}
 use Rattle.call_table.specs.Domain.{is_running}
 use Rattle.mail_slots.specs.Sides.{Arrival}
 use Rattle.hardware_check.specs.Hardware.{Hardware}
@@ -20,10 +24,13 @@ use Rattle.sched_table.specs.Schedule.{entry_of_slot, start, slot_end}
 use Rattle.world_view.specs.Frames.{root_of}
 use Rattle.world_view.specs.Cost.{hierarchy}
 use Rattle.world_view.specs.Mail.{turns, nth_of}
-use Rattle.world_view.specs.Machine.{Local, setting, step, clock_of, arrivals, alone_in, alone_mail}
-use Rattle.world_view.specs.EventLaws.{step_touches}
+use Rattle.world_view.specs.Machine.{Local, setting, step, clock_of, arrivals, alone_enter, alone_in, alone_mail}
+use Rattle.world_view.specs.Event.{Event, event}
+use Rattle.world_view.specs.Event.Event.{Run}
+use Rattle.world_view.specs.View.{View, view_mailed}
+use Rattle.world_view.specs.EventLaws.{step_touches, next_instruction}
 use Rattle.world_view.specs.Relations.{IsDomain, HasNoMail, Agree}
-use Rattle.world_view.specs.Harts.{Harts, IsInSlot, IsOutside, domain_on, public_on, hart_of_domain, slots_of, harts}
+use Rattle.world_view.specs.Harts.{Harts, IsInSlot, IsOutside, domain_on, public_on, hart_of_domain, slots_of, harts, view_on}
 use Rattle.world_view.specs.HartLaws.{AreHartsOf, IsBetween}
 use Rattle.domain_events.specs.Events.{Happening, Observed, Slot, observed, events_in, total, slots_mailed, logged}
 use Rattle.domain_events.specs.Events.Happening.{Ran, Delivered, Jumped}
@@ -210,3 +217,67 @@ abbrev pub TotalLaw : Type 0
 TotalLaw = (p : Hardware) (o : Own) (pinned : Bool) (end n : ℕ) (s : Local)
     → total (events_in (setting p o pinned) end n s)
     ≡ tally_all (hierarchy p) pinned s.caches (touches_in p o pinned end n s)
+
+-- ---- how many instructions
+
+abbrev pub is_run : Happening → Bool
+is_run (Ran thread pc) = true
+is_run (Delivered line) = false
+is_run (Jumped t) = false
+
+-- how many of these events are instructions, and how many of these slots'
+abbrev pub runs_in : List Observed → ℕ
+runs_in events = sum_by (λ e. one_if (is_run e.what)) events
+
+abbrev pub runs_of : List Slot → ℕ
+runs_of slots = sum_by (λ x. runs_in x.events) slots
+
+-- an instruction is a kernel call
+abbrev pub is_ecall : Option Instr → Bool
+is_ecall (Some Ecall) = true
+is_ecall _ = false
+
+abbrev pub is_call : Hardware → Own → Local → Event → Bool
+is_call p o s Run = is_ecall (next_instruction p o s.dom s.storage.mem)
+is_call p o s _ = false
+
+-- the kernel calls of as many steps alone, at most, while the clock is below the end
+unfoldable pub calls_in : Hardware → Own → ℕ → ℕ → Local → ℕ
+calls_in p o end zero s = 0
+calls_in p o end (suc n) s =
+    if nat_lt s.clock end
+    then one_if (is_call p o s (event o s.clock end s.dom)) + calls_in p o end n (step (setting p o true) end s)
+    else 0
+
+-- of slot k of the domain, which it begins so
+abbrev pub calls_from : Public → Own → ℕ → Local → ℕ
+calls_from p o k s = let end = slot_end p.schedule k in calls_in p.hardware o end (end - s.clock) s
+
+-- of all its slots before slot k
+unfoldable pub calls_alone : Public → Own → ℕ → List Arrival → ℕ → ℕ
+calls_alone p o d came zero = 0
+calls_alone p o d came (suc k) =
+    let before = calls_alone p o d came k in
+    if (entry_of_slot p.schedule k).domain == d
+    then before + calls_from p o k (alone_enter p o k (nth_of came (turns p.schedule d k)) (alone_mail p o d came k))
+    else before
+
+abbrev pub is_stopped : DomainStatus → Bool
+is_stopped (Stopped code pc value) = true
+is_stopped _ = false
+
+-- as many as retired, with the calls, which retire nothing, and the one that stopped the domain
+abbrev pub AreRuns : List Slot → View → ℕ → Type 0
+AreRuns slots v calls = runs_of slots ≡ v.retired + calls + one_if (is_stopped v.status)
+
+abbrev pub RetiredLaw : Type 0
+RetiredLaw = (p : Public) (o : Own) (d : ℕ) (came : List Arrival) (k : ℕ)
+    → AreRuns (slots_mailed p o d came k) (view_mailed p o d came k) (calls_alone p o d came k)
+
+abbrev pub WholeRetiredLaw : Type 0
+WholeRetiredLaw = (i : Image) (d : ℕ) (order : List ℕ) → Runnable i → IsDomain i d → AreHartsOf i order →
+    let h = hart_of_domain i d in
+    let s = harts i order in
+    IsBetween i h s
+    → AreRuns (logged i d order) (view_on i d s)
+    (calls_alone (public_on i.all h) (own_of i d) d (arrivals d s.world) (slots_of h s))

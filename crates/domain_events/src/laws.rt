@@ -1,7 +1,8 @@
 //! Laws over the definitions, each the contract of a function that does nothing: a caller
 //! that calls it may rely on the law.
 ghost use Rattle.domain_events.specs.Laws.{EventsLaw, AloneEventsLaw, TwoRunEventsLaw, PastLaw, NowLaw};
-ghost use Rattle.domain_events.specs.Laws.{CyclesLaw, FillsLaw, OwnSlotsLaw, PriceLaw, WholePriceLaw, TotalLaw, SeenLaw};
+ghost use Rattle.domain_events.specs.Laws.{CyclesLaw, FillsLaw, OwnSlotsLaw, PriceLaw, WholePriceLaw, TotalLaw};
+ghost use Rattle.domain_events.specs.Laws.{SeenLaw, RetiredLaw, WholeRetiredLaw};
 
 /// The events of a domain, each with its time and with what it counted, are those of the
 /// domain alone, whatever the order of the harts' events and whatever the other domains are:
@@ -36,4 +37,11 @@ pub fn prices()
 /// moment was due, or that none could run.
 pub fn happenings()
     ensures seen { SeenLaw }
+{}
+
+/// A domain has as many instructions as its view says retired, with its kernel calls, which
+/// retire nothing, and the one that stopped it.
+pub fn instructions()
+    ensures alone { RetiredLaw }
+    ensures whole { WholeRetiredLaw }
 {}
