@@ -2,3 +2,4 @@
 pub mod Events
 pub mod Laws
 pub mod Example
+pub mod Worked
