@@ -1,4 +1,4 @@
--- An event of a domain among others is seen as it is alone: it happens at the same clock, takes as long, and counts the same.
+-- An event of a domain among others is seen as it is alone: at the same clock, as long, and counting the same.
 use Rattle.std.proofs.Common.{◌≡◌, ℕ, ◌-◌, false, true, List, ap, ap₂, ◌∙◌, refl, subst₂}
 use Rattle.mem_system.specs.Cost.{Touch, Caches}
 use Rattle.mem_system.specs.Tally.{Tally, tally_all}

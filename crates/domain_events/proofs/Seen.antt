@@ -1,4 +1,4 @@
--- What happened is told right: in the words of threads and moments; and what a stretch counts is what all its touches count.
+-- What happened is told right, in the words of threads and moments; and a stretch counts what all its touches count.
 use Rattle.std.proofs.Common.{◌≡◌, ◌⊎◌, inl, inr, ℕ, zero, suc, Bool, true, false, ltb, List, [], ◌∷◌, ◌++◌, Option, Some, None, ap, ap₂, sym, ◌∙◌, refl}
 use Rattle.std.specs.Prelude.{if◌then◌else◌}
 use Rattle.std.proofs.lemmas.List.{append-nil}

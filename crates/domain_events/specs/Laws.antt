@@ -37,8 +37,8 @@ use Rattle.domain_events.specs.Events.Happening.{Ran, Delivered, Jumped}
 
 -- ---- among others and alone
 
--- whatever the order of events, where a domain's hart has not begun its next slot, the domain's events are those of it alone in as
--- many slots of that hart, with what came in boxes as they began
+-- whatever the order of events, where a domain's hart has not begun its next slot, the domain's events are those of it
+-- alone in as many slots of that hart, with what came in boxes as they began
 abbrev pub EventsLaw : Type 0
 EventsLaw = (i : Image) (d : ℕ) (order : List ℕ) → Runnable i → IsDomain i d → AreHartsOf i order →
     let h = hart_of_domain i d in
@@ -143,8 +143,8 @@ OwnSlotsLaw = (p : Public) (o : Own) (d : ℕ) (came : List Arrival) (k : ℕ)
 
 -- ---- the price of an event
 
--- by what happened: an instruction takes `base` and the price of what it counts, a delivery the price alone; a jump goes to
--- its clock, and counts nothing
+-- by what happened: an instruction takes `base` and the price of what it counts, a delivery the price alone; a jump goes
+-- to its clock, and counts nothing
 abbrev pub TakesBy : CostTable → Observed → Happening → Type 0
 TakesBy costs e (Ran thread pc) = e.cycles ≡ costs.base + price costs e.counts
 TakesBy costs e (Delivered line) = e.cycles ≡ price costs e.counts
