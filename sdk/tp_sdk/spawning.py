@@ -6,6 +6,7 @@ from __future__ import annotations
 import os
 import signal
 from collections.abc import Mapping
+from contextlib import suppress
 
 # What Python has ignored in itself, and other programs do not expect to be.
 _AS_EVER = [getattr(signal, name) for name in ("SIGPIPE", "SIGXFSZ") if hasattr(signal, name)]
@@ -51,6 +52,7 @@ def _run(
     _write(source, given)
     os.lseek(source, 0, os.SEEK_SET)
     _begin(out)
+    process = 0
     try:
         mask = signal.pthread_sigmask(signal.SIG_BLOCK, _ENDING)
         process = os.posix_spawn(
@@ -65,24 +67,22 @@ def _run(
             setsigmask=mask,
             setsigdef=_AS_EVER,
         )
-    except BaseException:
-        signal.pthread_sigmask(signal.SIG_UNBLOCK, _ENDING)
-        raise
-    code = _awaited(process, mask)
-    return code, os.pread(out, os.lseek(out, 0, os.SEEK_END), 0)
-
-
-def _awaited(process: int, mask: set[int]) -> int:
-    """The exit code of a process, which ends where the wait for it is interrupted; from now on it can be."""
-    try:
         signal.pthread_sigmask(signal.SIG_SETMASK, mask)
         _, status = os.waitpid(process, 0)
     # (Ctrl-C, too)
     except BaseException:
+        if process:
+            _end(process)
+        signal.pthread_sigmask(signal.SIG_UNBLOCK, _ENDING)
+        raise
+    return os.waitstatus_to_exitcode(status), os.pread(out, os.lseek(out, 0, os.SEEK_END), 0)
+
+
+def _end(process: int) -> None:
+    """Ends a process, unless it has ended, and was awaited, right before."""
+    with suppress(ProcessLookupError, ChildProcessError):
         os.kill(process, signal.SIGKILL)
         os.waitpid(process, 0)
-        raise
-    return os.waitstatus_to_exitcode(status)
 
 
 def _file() -> int:
