@@ -9,13 +9,16 @@ from collections.abc import Iterator
 from concurrent.futures import FIRST_COMPLETED, Future, ProcessPoolExecutor, wait
 from concurrent.futures.process import BrokenProcessPool
 from contextlib import contextmanager
+from threading import Thread
 from time import monotonic
 
 from tp_sdk.faults import Fault
 from tp_sdk.sweeping.plan import Runs
 from tp_sdk.sweeping.running import Chunk, Runner
 
-_PATIENCE = 1.0  # seconds in which a worker ends that is told to
+_PATIENCE = 3.0  # seconds in which a worker ends that is told to
+# A signal that comes right before a wait is not seen while that goes on: so nothing is awaited for longer at once.
+_STEP, _STEP_TO_END = 0.5, 0.05  # seconds
 
 
 @contextmanager
@@ -28,8 +31,11 @@ def processes(runner: Runner, count: int, runs: Runs) -> Iterator[Processes]:
     try:
         yield Processes(pool, count)
     except BaseException:
-        pool.shutdown(wait=False, cancel_futures=True)
+        # (its end is awaited, too: else the pool's own thread may still be at it when Python ends, which then says so)
+        closing = Thread(target=pool.shutdown, kwargs={"cancel_futures": True})
+        closing.start()
         _end_all(set(multiprocessing.active_children()) - before)
+        closing.join()
         raise
     finally:
         pool.shutdown(cancel_futures=True)
@@ -37,11 +43,12 @@ def processes(runner: Runner, count: int, runs: Runs) -> Iterator[Processes]:
 
 def _end_all(workers: set[multiprocessing.process.BaseProcess]) -> None:
     """Ends them, and the programs that they run: one that is not through with a run in time, whatever it is at."""
-    for it in workers:
-        it.terminate()
     until = monotonic() + _PATIENCE
-    for it in workers:
-        it.join(max(0.0, until - monotonic()))
+    while monotonic() < until and any(it.is_alive() for it in workers):
+        for it in workers:
+            it.terminate()
+        for it in workers:
+            it.join(_STEP_TO_END)
     for it in workers:
         it.kill()
 
@@ -64,7 +71,9 @@ class Processes:
 
     def wait(self) -> list[Chunk]:
         """What was done meanwhile: some at least."""
-        done, self._pending = wait(self._pending, return_when=FIRST_COMPLETED)
+        done: set[Future[Chunk]] = set()
+        while not done:
+            done, self._pending = wait(self._pending, _STEP, FIRST_COMPLETED)
         with _told_as_faults():
             return [it.result() for it in done]
 
@@ -103,8 +112,8 @@ def _stop(*_: object) -> None:
     """Ends the runs, and the program that is run. (A worker that ended while it tells what it did, or with a lock of
     the pool's, would keep others waiting: so it ends when the pool has it end, and does no more runs until then.)"""
     global _is_ended
-    _is_ended = True
-    if _is_running:
+    was_ended, _is_ended = _is_ended, True
+    if _is_running and not was_ended:
         raise _Stopped
 
 
