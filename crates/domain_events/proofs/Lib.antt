@@ -7,3 +7,4 @@ pub mod Retired
 pub mod Logs
 pub mod Theorems
 pub mod Moments
+pub mod Same

@@ -22,7 +22,7 @@ use Rattle.domain_events.proofs.Logs.{InOwn, LogIn, LogAt, slots, slot_with, ent
 use Rattle.domain_events.proofs.Theorems.{logs}
 
 -- a front of a list
-All-front : {X : Type 0} (P : X → Type 0) (xs ys : List X) → All P (xs ++ ys) → All P xs
+pub All-front : {X : Type 0} (P : X → Type 0) (xs ys : List X) → All P (xs ++ ys) → All P xs
 All-front P xs ys all k d lt = subst P (get_or_append_left xs ys d k lt) (all k d (omega (arith, lt, length-append xs ys)))
 
 module _ (i : Image) (r : Runnable i) (d : ℕ) (id : IsDomain i d) where

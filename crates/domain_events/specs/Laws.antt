@@ -31,7 +31,7 @@ use Rattle.world_view.specs.View.{View, view_mailed}
 use Rattle.world_view.specs.EventLaws.{step_touches, next_instruction}
 use Rattle.world_view.specs.Relations.{IsDomain, HasNoMail, Agree}
 use Rattle.world_view.specs.Harts.{Harts, IsInSlot, IsOutside, domain_on, public_on, hart_of_domain, slots_of, harts, view_on}
-use Rattle.world_view.specs.HartLaws.{AreHartsOf, IsBetween}
+use Rattle.world_view.specs.HartLaws.{AreHartsOf, IsBetween, events_of, HasNoMailOn}
 use Rattle.domain_events.specs.Events.{Happening, Observed, Slot, observed, events_in, total, slots_mailed, logged}
 use Rattle.domain_events.specs.Events.Happening.{Ran, Delivered, Jumped}
 
@@ -122,6 +122,14 @@ NowLaw = (i : Image) (d : ℕ) (order : List ℕ) → Runnable i → IsDomain i 
     let h = hart_of_domain i d in
     let s = harts i order in
     IsInSlot h s → domain_on i h s ≡ d → IsInLast i d s (logged i d order)
+
+-- where no box leads to a domain of its hart, how far its events are goes by the number of the hart's own events, whatever
+-- the others' are and in whatever order they come
+abbrev pub SameEventsLaw : Type 0
+SameEventsLaw =
+    (i : Image) (d : ℕ) (one two : List ℕ) → Runnable i → IsDomain i d → AreHartsOf i one → AreHartsOf i two →
+    let h = hart_of_domain i d in
+    HasNoMailOn i h → events_of h one ≡ events_of h two → logged i d one ≡ logged i d two
 
 -- ---- which slots
 

@@ -1,18 +1,20 @@
 //! Laws over the definitions, each the contract of a function that does nothing: a caller
 //! that calls it may rely on the law.
-ghost use Rattle.domain_events.specs.Laws.{EventsLaw, AloneEventsLaw, TwoRunEventsLaw, PastLaw, NowLaw};
+ghost use Rattle.domain_events.specs.Laws.{EventsLaw, AloneEventsLaw, TwoRunEventsLaw, PastLaw, NowLaw, SameEventsLaw};
 ghost use Rattle.domain_events.specs.Laws.{CyclesLaw, FillsLaw, OwnSlotsLaw, PriceLaw, WholePriceLaw, TotalLaw};
 ghost use Rattle.domain_events.specs.Laws.{SeenLaw, RetiredLaw, WholeRetiredLaw};
 
 /// The events of a domain, each with its time and with what it counted, are those of the
 /// domain alone, whatever the order of the harts' events and whatever the other domains are:
-/// so between two slots, in others', and as far as its own has come.
+/// so between two slots, in others', and as far as its own has come. Where nothing comes to
+/// its hart's domains, that goes by the number of the hart's own events.
 pub fn isolation()
     ensures mailed { EventsLaw }
     ensures alone { AloneEventsLaw }
     ensures two_runs { TwoRunEventsLaw }
     ensures past { PastLaw }
     ensures now { NowLaw }
+    ensures same_events { SameEventsLaw }
 {}
 
 /// The slots in which a domain has events are its own, all of them, in their order. In each
