@@ -121,16 +121,16 @@ module _ (p : Hardware) (o : Own) (pinned : Bool) where
   abbrev pub weight : Dom → ℕ
   weight d = d.retired + one_if (is_stopped d.status)
 
-  happened_counts : (s : Local) (e : Event) → Comes o s.clock s.dom e
+  happened_counts : (end : ℕ) (s : Local) (e : Event) → Comes o s.clock end s.dom e
       → one_if (is_call p o s e) + weight (happened (setting p o pinned) s e).dom
       ≡ one_if (is_run (happening s.dom e)) + weight s.dom
   unfolding happening happened paid delivered estate
-  happened_counts s (Jump t) comes = refl
-  happened_counts s (Deliver line) comes =
+  happened_counts end s (Jump t) comes = refl
+  happened_counts end s (Deliver line) comes =
       let retired = delivered_retired line s.dom in
       let goes = ap (λ (status : DomainStatus). one_if (is_stopped status)) (delivered_status line s.dom) in
       omega (arith, retired, goes)
-  happened_counts s Run comes =
+  happened_counts end s Run comes =
       let runs = running_goes s.dom.status comes.0 in
       let before = ap one_if runs in
       let later : Dom = (happened (setting p o pinned) s Run).dom in
@@ -142,7 +142,7 @@ module _ (p : Hardware) (o : Own) (pinned : Bool) where
       → one_if (is_call p o s (event o s.clock end s.dom)) + weight (step (setting p o pinned) end s).dom
       ≡ one_if (is_run (observed (setting p o pinned) end s).what) + weight s.dom
   unfolding step observed
-  step_counts end s = happened_counts s (event o s.clock end s.dom) (event_comes o s.clock s.dom end)
+  step_counts end s = happened_counts end s (event o s.clock end s.dom) (event_comes o s.clock end s.dom)
 
 -- ---- a stretch
 

@@ -1,11 +1,15 @@
 -- What happened is told right, in the words of threads and moments; and a stretch counts what all its touches count.
-use Rattle.std.proofs.Common.{◌≡◌, ◌⊎◌, inl, inr, ℕ, zero, suc, Bool, true, false, ltb, List, [], ◌∷◌, ◌++◌, Option, Some, None, ap, ap₂, sym, ◌∙◌, refl}
+use Rattle.std.proofs.Common.{◌≡◌, ◌⊎◌, inl, inr, ℕ, zero, suc, ◌≤◌, Bool, true, false, ltb, List, [], ◌∷◌, ◌++◌, Option, Some, None, ap, ap₂, sym, ◌∙◌, refl, arith}
 use Rattle.std.specs.Prelude.{if◌then◌else◌}
 use Rattle.std.proofs.lemmas.List.{append-nil}
 use Rattle.tp_base.specs.Act.{Done, go_on, ◌>>=◌}
 use Rattle.sv32_walk.specs.declared.access.Access.TheVariants.{Fetch}
 use Rattle.sv32_walk.specs.Walk.{walk}
-use Rattle.irq_partition.specs.Interrupts.{next_cycle, due}
+use Rattle.irq_partition.specs.Interrupts.{cycle_of, next_cycle, due}
+use Rattle.irq_partition.specs.declared.Moment.{Moment}
+use Rattle.std.proofs.lemmas.Bool.{cases_lt, true≢false}
+use Rattle.std.proofs.lemmas.Option.{none-some, same_Some}
+use Rattle.std.specs.Prelude.{slice_get}
 use Rattle.mem_system.specs.Cost.{Touch, Caches}
 use Rattle.mem_system.specs.Tally.{plus, tally_all}
 use Rattle.mem_system.specs.Translation.{look_of}
@@ -20,7 +24,7 @@ use Rattle.image_check.specs.Own.{Own}
 use Rattle.world_view.specs.Frames.{root_of}
 use Rattle.world_view.specs.Cost.{hierarchy}
 use Rattle.world_view.specs.Kernel.{estate, layout}
-use Rattle.world_view.specs.Event.{Storage, Act, translate, instruction, Event, thread_event, unless_due, interrupts_of, event}
+use Rattle.world_view.specs.Event.{Storage, Act, translate, instruction, Event, thread_event, unless_due, idle_until, interrupts_of, event}
 use Rattle.world_view.specs.Event.Event.{Jump, Deliver, Run}
 use Rattle.world_view.specs.Machine.{setting, Local, delivered, happened, step}
 use Rattle.world_view.specs.EventLaws.{event_touches, step_touches}
@@ -28,33 +32,61 @@ use Rattle.world_view.proofs.steps.EventLaws.{due_moment}
 use Rattle.world_view.proofs.steps.Fuel.{JumpsPast, StaysWithin, event_later, event_within}
 use Rattle.world_view.proofs.steps.StepLaws.{step_caches}
 use Rattle.domain_events.specs.Events.{Observed, happening, counted, observed, events_in, total}
-use Rattle.domain_events.specs.Laws.{RanSo, SeenSo, SeenLaw, touches_in, TotalLaw}
+use Rattle.domain_events.specs.Laws.{IsNext, RanSo, SeenSo, SeenLaw, touches_in, TotalLaw}
 
 -- ---- when each happens
 
-module _ (o : Own) (now : ℕ) (d : Dom) where
+module _ (o : Own) (now end : ℕ) (d : Dom) where
+  -- the clock goes to t: to the end, or to the next moment
+  pub record Idles (t : ℕ) : Type 0 where
+    pub idle : (is_running d.status ≡ false) ⊎ (is_ready d.threads.current.state ≡ false)
+    pub goes : (t ≡ end) ⊎ ((x : Moment) × IsNext o d x × (x.at ≡ t))
+    pub no_later : is_running d.status ≡ true → (x : Moment) → IsNext o d x → t ≤ x.at
+
   abbrev pub Comes : Event → Type 0
-  Comes (Jump t) = (is_running d.status ≡ false) ⊎ (is_ready d.threads.current.state ≡ false)
+  Comes (Jump t) = Idles t
   Comes (Deliver line) = (is_running d.status ≡ true) × (due now (interrupts_of o d) ≡ Some line)
   Comes Run = (is_running d.status ≡ true) × (is_ready d.threads.current.state ≡ true)
 
-  due_comes : (end : ℕ) (next : Option ℕ) (ready : Bool) (line : Option ℕ) → is_running d.status ≡ true
-      → is_ready d.threads.current.state ≡ ready → due now (interrupts_of o d) ≡ line
-      → Comes (unless_due (thread_event end next ready) line)
-  due_comes end next ready (Some line) runs is e = (runs, e)
-  due_comes end next true None runs is e = (runs, is)
-  due_comes end next false None runs is e = inr is
+  idles_by : (next : Option Moment) → slice_get o.moments d.delivered ≡ next → is_ready d.threads.current.state ≡ false
+      → Idles (idle_until end (cycle_of next))
+  idles_by None none ready = record {
+    idle = inr ready;
+    goes = inl refl;
+    no_later = λ runs x is. absurd (none-some x (sym none ∙ is));
+  }
+  idles_by (Some y) there ready = record {
+    idle = inr ready;
+    goes = elim (cases_lt y.at end) [
+      | inl sooner ↦ inr (y, there, omega (arith, sooner))
+      | inr later ↦ inl (omega (arith, later))
+    ];
+    no_later = λ runs x is.
+        let same : y.at ≡ x.at = ap (λ (z : Moment). z.at) (same_Some y x (sym there ∙ is)) in omega (arith, same);
+  }
 
-  running_comes : (end : ℕ) (b : Bool) (e : Event) → is_running d.status ≡ b → (b ≡ true → Comes e)
+  due_comes : (next : Option Moment) (ready : Bool) (line : Option ℕ) → slice_get o.moments d.delivered ≡ next
+      → is_running d.status ≡ true → is_ready d.threads.current.state ≡ ready → due now (interrupts_of o d) ≡ line
+      → Comes (unless_due (thread_event end (cycle_of next) ready) line)
+  due_comes next ready (Some line) there runs is e = (runs, e)
+  due_comes next true None there runs is e = (runs, is)
+  due_comes next false None there runs is e = idles_by next there is
+
+  running_comes : (b : Bool) (e : Event) → is_running d.status ≡ b → (b ≡ true → Comes e)
       → Comes (if b then e else Jump end)
-  running_comes end true e is comes = comes refl
-  running_comes end false e is comes = inl is
+  running_comes true e is comes = comes refl
+  running_comes false e is comes = record {
+    idle = inl is;
+    goes = inl refl;
+    no_later = λ runs x next. absurd (true≢false (sym runs ∙ is));
+  }
 
-  pub event_comes : (end : ℕ) → Comes (event o now end d)
-  unfolding event
-  event_comes end =
-      running_comes end (is_running d.status) _ refl
-      (λ runs. due_comes end (next_cycle (interrupts_of o d)) (is_ready d.threads.current.state) (due now (interrupts_of o d)) runs refl refl)
+  pub event_comes : Comes (event o now end d)
+  unfolding event next_cycle interrupts_of
+  event_comes =
+      running_comes (is_running d.status) _ refl
+      (λ runs. due_comes (slice_get o.moments d.delivered) (is_ready d.threads.current.state)
+      (due now (interrupts_of o d)) refl runs refl refl)
 
 -- ---- an instruction looks its page up first
 
@@ -76,9 +108,9 @@ module _ (p : Hardware) (o : Own) where
   unfolding instruction translate estate
   looks_up t d s = bind_front (translate p (estate p o).root d Fetch d.threads.current.pc) _ s
 
-  ran_so : (s : Local) → Comes o s.clock s.dom Run
+  ran_so : (end : ℕ) (s : Local) → Comes o s.clock end s.dom Run
       → RanSo p o s (event_touches p o s Run) (current_number s.dom.threads) s.dom.threads.current.pc
-  ran_so s comes =
+  ran_so end s comes =
       let its = current_at s.dom.threads in
       let looks = looks_up s.clock s.dom s.storage in
       record {
@@ -90,10 +122,17 @@ module _ (p : Hardware) (o : Own) where
         looked_up = looks.1;
       }
 
-  seen_if : (pinned : Bool) (end : ℕ) (s : Local) (e : Event) → Comes o s.clock s.dom e → JumpsPast s.clock e → StaysWithin end e
+  seen_if : (pinned : Bool) (end : ℕ) (s : Local) (e : Event) → Comes o s.clock end s.dom e → JumpsPast s.clock e → StaysWithin end e
       → SeenSo p o end s (event_touches p o s e) (happened (setting p o pinned) s e) (happening s.dom e)
   unfolding happening happened delivered
-  seen_if pinned end s (Jump t) comes past within = record { idle = comes; past = past; within = within; nothing_else = refl }
+  seen_if pinned end s (Jump t) comes past within = record {
+    idle = comes.idle;
+    past = past;
+    within = within;
+    goes = comes.goes;
+    no_later = comes.no_later;
+    nothing_else = refl;
+  }
   seen_if pinned end s (Deliver line) comes past within =
       let x = due_moment o s.clock s.dom line comes.1 in
       record {
@@ -104,12 +143,12 @@ module _ (p : Hardware) (o : Own) where
         its_line = x.3;
         delivered = delivery_counts s.dom line;
       }
-  seen_if pinned end s Run comes past within = ran_so s comes
+  seen_if pinned end s Run comes past within = ran_so end s comes
 
 pub seen_law : SeenLaw
 unfolding observed step
 seen_law p o pinned end s soon =
-    seen_if p o pinned end s (event o s.clock end s.dom) (event_comes o s.clock s.dom end)
+    seen_if p o pinned end s (event o s.clock end s.dom) (event_comes o s.clock end s.dom)
     (event_later o s.clock end s.dom soon) (event_within o s.clock end s.dom)
 
 -- ---- what a stretch counts

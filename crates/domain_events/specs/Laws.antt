@@ -13,7 +13,7 @@ use Rattle.mem_system.specs.Translation.{look_of}
 use Rattle.thread_set.specs.Threads.{is_ready, thread_at}
 use Rattle.call_table.specs.declared.DomainStatus.{DomainStatus}
 use Rattle.call_table.specs.declared.DomainStatus.TheVariants.{Stopped}
-use Rattle.call_table.specs.Domain.{is_running}
+use Rattle.call_table.specs.Domain.{Dom, is_running}
 use Rattle.mail_slots.specs.Sides.{Arrival}
 use Rattle.hardware_check.specs.Hardware.{Hardware}
 use Rattle.image_check.specs.Public.{Public}
@@ -182,27 +182,34 @@ pub record RanSo (p : Hardware) (o : Own) (s : Local) (touches : List Touch) (th
   pub more : List Touch
   pub looked_up : touches ≡ look_of p.line pc (walk s.storage.mem p.frames (root_of p o) pc Fetch) ∷ more
 
+-- this moment is the domain's next
+abbrev pub IsNext : Own → Dom → Moment → Type 0
+IsNext o d x = slice_get o.moments d.delivered ≡ Some x
+
 -- the domain's next moment, whose cycle had come, was of this line, and is delivered
 pub record DeliveredSo (o : Own) (s later : Local) (line : ℕ) : Type 0 where
   pub running : is_running s.dom.status ≡ true
   pub moment : Moment
-  pub next : slice_get o.moments s.dom.delivered ≡ Some moment
+  pub next : IsNext o s.dom moment
   pub come : moment.at ≤ s.clock
   pub its_line : moment.line ≡ line
   pub delivered : later.dom.delivered ≡ s.dom.delivered + 1
 
--- the domain was ended, or had no thread that could go on; nothing changed but the clock
-pub record JumpedSo (end : ℕ) (s later : Local) (t : ℕ) : Type 0 where
+-- the domain was ended, or had no thread that could go on. The clock goes to the slot's end, or to the next moment where
+-- that is sooner; nothing else changes
+pub record JumpedSo (o : Own) (end : ℕ) (s later : Local) (t : ℕ) : Type 0 where
   pub idle : (is_running s.dom.status ≡ false) ⊎ (is_ready s.dom.threads.current.state ≡ false)
   pub past : s.clock < t
   pub within : t ≤ end
+  pub goes : (t ≡ end) ⊎ ((x : Moment) × IsNext o s.dom x × (x.at ≡ t))
+  pub no_later : is_running s.dom.status ≡ true → (x : Moment) → IsNext o s.dom x → t ≤ x.at
   pub nothing_else : later ≡ record s { clock = t }
 
 -- by what happened, to which this is what was touched and what is left
 abbrev pub SeenSo : Hardware → Own → ℕ → Local → List Touch → Local → Happening → Type 0
 SeenSo p o end s touches later (Ran thread pc) = RanSo p o s touches thread pc
 SeenSo p o end s touches later (Delivered line) = DeliveredSo o s later line
-SeenSo p o end s touches later (Jumped t) = JumpedSo end s later t
+SeenSo p o end s touches later (Jumped t) = JumpedSo o end s later t
 
 -- alone, where the kernel's lines are pinned, and among others, where they aren't
 abbrev pub SeenLaw : Type 0
