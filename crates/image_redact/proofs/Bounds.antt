@@ -68,16 +68,16 @@ exit_alone_least false version calls later none =
     one : (n : ℕ) → nat_eq n 1 ≡ false → 1 ≡ calls_in (exit_alone n)
     one n e = rw e refl
 
-module _ (v d : ℕ) (kept : List ℕ) (mail : Bool) where
+module _ (v : ℕ) (kept : List Bool) (taken : List (List ℕ)) (mail : Bool) where
   one_least : (n : ℕ) (o : RawDomain) → (v ≡ 1 → o.calls ≡ None)
-      → NoMore (own_from n mail (at v d kept n o)).calls (own_from n mail o).calls
+      → NoMore (own_from n mail (at v kept taken n o)).calls (own_from n mail o).calls
   unfolding own_from emptied
   one_least n o says =
-      at_either v d kept (λ x. NoMore (own_from n mail x).calls (own_from n mail o).calls) n o (λ here. same_calls _ _ refl)
+      at_either v kept taken (λ x. NoMore (own_from n mail x).calls (own_from n mail o).calls) n o (λ here. same_calls _ _ refl)
       (λ there. exit_alone_least (nat_eq v 1) v o.calls refl says)
 
   pub each_least : (n : ℕ) (os : List RawDomain) → Placed (λ k o. v ≡ 1 → o.calls ≡ None) n os → (k : ℕ)
-      → NoMore (own_at (owns_from n mail (from v d kept n os)) k).calls (own_at (owns_from n mail os) k).calls
+      → NoMore (own_at (owns_from n mail (from v kept taken n os)) k).calls (own_at (owns_from n mail os) k).calls
   each_least n [] all k = same_calls _ _ refl
   each_least n (o ∷ os) all zero = one_least n o all.0
   each_least n (o ∷ os) all (suc k) = each_least (n + 1) os all.1 k

@@ -1,4 +1,5 @@
 pub mod Names
+pub mod Leading
 pub mod Lists
 pub mod Needs
 pub mod Bounds

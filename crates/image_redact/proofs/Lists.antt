@@ -1,11 +1,11 @@
--- Lists of domains of which all but one are emptied, and what each rule asks of one domain after the other.
-use Rattle.std.proofs.Common.{◌≡◌, ◌≢◌, ℕ, zero, suc, ◌+◌, ◌<◌, Bool, true, false, List, [], ◌∷◌, ◌++◌, length, get_or, Option, None, refl, sym, ap, ap₂, subst, ◌∙◌, arith}
-use Rattle.std.specs.Prelude.{nat_eq}
-use Rattle.std.proofs.lemmas.Bool.Decides.{nat_tests}
-use Rattle.image_record.specs.Record.{RawDomain}
+-- Lists of domains of which all but some are emptied, and what each rule asks of one domain after the other.
+use Rattle.std.proofs.Common.{◌≡◌, ℕ, zero, suc, ◌+◌, ◌<◌, ◌≤◌, ◌||◌, Bool, true, false, List, [], ◌∷◌, ◌++◌, length, get_or, Option, None, refl, sym, ap, ap₂, subst, ◌∙◌, true≢false, arith}
+use Rattle.std.specs.Str.{bytes_eq}
+use Rattle.std.proofs.lemmas.Slice.Eq.{bytes_eq-Decides}
+use Rattle.image_record.specs.Record.{RawDomain, no_raw_domain}
 use Rattle.image_record.specs.Cases.{or_else, first_case}
 use Rattle.image_record.proofs.FirstCases.{or_first, or_rest}
-use Rattle.image_redact.specs.Redacted.{emptied, redacted_at, redacted_from}
+use Rattle.image_redact.specs.Redacted.{is_among, is_taken, names_from, emptied, redacted_at, redacted_from}
 
 pub neither : {A : Type 0} (a b : Option A) → a ≡ None → b ≡ None → or_else a b ≡ None
 neither a b none_a none_b = rw (none_a, none_b)
@@ -43,24 +43,57 @@ placed_each P none n (o ∷ os) each =
           subst (λ m. P m (get_or os k none)) next (each (suc k) (omega (arith, l))))),
     )
 
-module _ (v d : ℕ) (kept : List ℕ) where
+moved : {b : Bool} (kept : List Bool) (m n : ℕ) → m ≡ n → is_among kept m ≡ b → is_among kept n ≡ b
+moved kept m n same e = ap (is_among kept) (sym same) ∙ e
+
+-- there are no more names than domains
+pub few_names : (kept : List Bool) (n : ℕ) (os : List RawDomain) → length (names_from kept n os) ≤ length os
+few_names kept n [] = omega arith
+few_names kept n (o ∷ os) = by_test (is_among kept n) refl (few_names kept (n + 1) os)
+  where
+    by_test : (b : Bool) → is_among kept n ≡ b → length (names_from kept (n + 1) os) ≤ length os
+        → length (names_from kept n (o ∷ os)) ≤ length (o ∷ os)
+    by_test true e rest = rw e (omega (arith, rest))
+    by_test false e rest = rw e (omega (arith, rest))
+
+-- the name of each that is kept is one of them
+pub its_name : (kept : List Bool) (n k : ℕ) (os : List RawDomain) → k < length os → is_among kept (n + k) ≡ true
+    → is_taken (names_from kept n os) (get_or os k no_raw_domain).name ≡ true
+its_name kept n k [] l is = absurd (omega (arith, l))
+its_name kept n zero (o ∷ os) l is =
+    let here : is_among kept n ≡ true = moved kept (n + 0) n (omega arith) is in
+    let same : bytes_eq o.name o.name ≡ true = (bytes_eq-Decides o.name o.name).1 refl in
+    rw (here, same) refl
+its_name kept n (suc k) (o ∷ os) l is =
+    by_test (is_among kept n) refl
+    (its_name kept (n + 1) k os (omega (arith, l)) (moved kept (n + suc k) ((n + 1) + k) (omega arith) is))
+  where
+    later : (b : Bool) → b || true ≡ true
+    later true = refl
+    later false = refl
+
+    by_test : (b : Bool) → is_among kept n ≡ b
+        → is_taken (names_from kept (n + 1) os) (get_or os k no_raw_domain).name ≡ true
+        → is_taken (names_from kept n (o ∷ os)) (get_or os k no_raw_domain).name ≡ true
+    by_test true e rest = rw (e, rest) (later (bytes_eq o.name (get_or os k no_raw_domain).name))
+    by_test false e rest = rw (e, rest) refl
+
+module _ (v : ℕ) (kept : List Bool) (taken : List (List ℕ)) where
   abbrev pub at : ℕ → RawDomain → RawDomain
-  at n o = redacted_at v d kept n o
+  at n o = redacted_at v kept taken n o
 
   abbrev pub from : ℕ → List RawDomain → List RawDomain
-  from n os = redacted_from v d kept n os
+  from n os = redacted_from v kept taken n os
 
-  -- what holds of the kept domain and of an emptied one
-  by_test : (b : Bool) (P : RawDomain → Type 0) (n : ℕ) (o : RawDomain) → nat_eq n d ≡ b → (n ≡ d → P o)
-      → (n ≢ d → P (emptied v kept n o)) → P (at n o)
-  by_test true P n o e here there = let is : n ≡ d = grind (arith, nat_tests, e) in rw e (here is)
-  by_test false P n o e here there =
-      let other : n ≢ d = λ same. (let no : nat_eq n d ≡ true = grind (arith, nat_tests, same) in cc) in
-      rw e (there other)
+  -- what holds of a kept domain and of an emptied one
+  by_test : (b : Bool) (P : RawDomain → Type 0) (n : ℕ) (o : RawDomain) → is_among kept n ≡ b
+      → (is_among kept n ≡ true → P o) → (is_among kept n ≡ false → P (emptied v taken n o)) → P (at n o)
+  by_test true P n o e here there = rw e (here e)
+  by_test false P n o e here there = rw e (there e)
 
-  pub at_either : (P : RawDomain → Type 0) (n : ℕ) (o : RawDomain) → (n ≡ d → P o)
-      → (n ≢ d → P (emptied v kept n o)) → P (at n o)
-  at_either P n o here there = by_test (nat_eq n d) P n o refl here there
+  pub at_either : (P : RawDomain → Type 0) (n : ℕ) (o : RawDomain) → (is_among kept n ≡ true → P o)
+      → (is_among kept n ≡ false → P (emptied v taken n o)) → P (at n o)
+  at_either P n o here there = by_test (is_among kept n) P n o refl here there
 
   pub same_length : (n : ℕ) (os : List RawDomain) → length (from n os) ≡ length os
   same_length n [] = refl
@@ -97,23 +130,36 @@ module _ (v d : ℕ) (kept : List ℕ) where
       long [] y = refl
       long (x ∷ xs) y = let more = long xs y in omega (arith, more)
 
-  -- the kept domain is found at its place
-  pub kept_at : (none : RawDomain) (n k : ℕ) (os : List RawDomain) → n + k ≡ d
+  -- a kept domain is found at its place
+  pub kept_at : (none : RawDomain) (n k : ℕ) (os : List RawDomain) → is_among kept (n + k) ≡ true
       → get_or (from n os) k none ≡ get_or os k none
   kept_at none n k [] e = refl
   kept_at none n zero (o ∷ os) e =
-      at_either (λ x. x ≡ o) n o (λ here. refl) (λ other. absurd (other (omega (arith, e))))
-  kept_at none n (suc k) (o ∷ os) e = kept_at none (n + 1) k os (omega (arith, e))
+      at_either (λ x. x ≡ o) n o (λ here. refl)
+      (λ other. absurd (true≢false (sym e ∙ moved kept n (n + 0) (omega arith) other)))
+  kept_at none n (suc k) (o ∷ os) e = kept_at none (n + 1) k os (moved kept (n + suc k) ((n + 1) + k) (omega arith) e)
 
   -- and an emptied one at each other
-  pub emptied_at : (none : RawDomain) (n k : ℕ) (os : List RawDomain) → k < length os → n + k ≢ d
-      → get_or (from n os) k none ≡ emptied v kept (n + k) (get_or os k none)
+  pub emptied_at : (none : RawDomain) (n k : ℕ) (os : List RawDomain) → k < length os → is_among kept (n + k) ≡ false
+      → get_or (from n os) k none ≡ emptied v taken (n + k) (get_or os k none)
   emptied_at none n k [] l other = absurd (omega (arith, l))
   emptied_at none n zero (o ∷ os) l other =
       let e : n + 0 ≡ n = omega arith in
-      at_either (λ x. x ≡ emptied v kept (n + 0) o) n o (λ here. absurd (other (e ∙ here)))
-      (λ there. ap (λ m. emptied v kept m o) (sym e))
+      at_either (λ x. x ≡ emptied v taken (n + 0) o) n o
+      (λ here. absurd (true≢false (sym here ∙ moved kept (n + 0) n e other)))
+      (λ there. ap (λ m. emptied v taken m o) (sym e))
   emptied_at none n (suc k) (o ∷ os) l other =
       let e : (n + 1) + k ≡ n + suc k = omega arith in
-      emptied_at none (n + 1) k os (omega (arith, l)) (λ same. other (sym e ∙ same))
-      ∙ ap (λ m. emptied v kept m (get_or os k none)) e
+      emptied_at none (n + 1) k os (omega (arith, l)) (moved kept (n + suc k) ((n + 1) + k) (sym e) other)
+      ∙ ap (λ m. emptied v taken m (get_or os k none)) e
+
+  -- their names are as they were
+  pub same_names : (n : ℕ) (os : List RawDomain) → names_from kept n (from n os) ≡ names_from kept n os
+  same_names n [] = refl
+  same_names n (o ∷ os) = by_name (is_among kept n) n o os refl (same_names (n + 1) os)
+    where
+      by_name : (b : Bool) (n : ℕ) (o : RawDomain) (os : List RawDomain) → is_among kept n ≡ b
+          → names_from kept (n + 1) (from (n + 1) os) ≡ names_from kept (n + 1) os
+          → names_from kept n (from n (o ∷ os)) ≡ names_from kept n (o ∷ os)
+      by_name true n o os e rest = rw (e, rest)
+      by_name false n o os e rest = rw (e, rest)

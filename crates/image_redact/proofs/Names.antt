@@ -1,6 +1,6 @@
--- The names of emptied domains: each is a name, none is the kept one's, and no two are the same.
-use Rattle.std.proofs.Common.{◌≡◌, ◌≢◌, ℕ, zero, suc, ◌+◌, ◌<◌, ◌^◌, Bool, true, false, ◌&&◌, List, drop, refl, sym, ap, ◌∙◌, ◌⊎◌, inl, inr, true≢false, arith}
-use Rattle.std.specs.Prelude.{nat_eq}
+-- The names of emptied domains: each is a name, none is a kept one's, and no two are the same.
+use Rattle.std.proofs.Common.{◌≡◌, ◌≢◌, ℕ, zero, suc, ◌+◌, ◌-◌, ◌*◌, ◌<◌, ◌≤◌, ◌^◌, Bool, true, false, ◌&&◌, List, [], ◌∷◌, length, drop, refl, sym, ap, ◌∙◌, inl, inr, true≢false, arith}
+use Rattle.std.specs.Prelude.{nat_eq, if◌then◌else◌}
 use Rattle.std.specs.Str.{bytes_eq}
 use Rattle.std.specs.Fmt.{digits}
 use Rattle.std.proofs.lemmas.Bool.{cases_Bool, and_parts, false_from_ne_true}
@@ -8,7 +8,8 @@ use Rattle.std.proofs.lemmas.Bool.Decides.{nat_tests}
 use Rattle.std.proofs.lemmas.Fmt.{decimal_injective}
 use Rattle.std.proofs.lemmas.Slice.Eq.{bytes_eq-Decides}
 use Rattle.domain_check.specs.Names.{is_name}
-use Rattle.image_redact.specs.Redacted.{numbered, name_beside}
+use Rattle.image_redact.specs.Redacted.{is_taken, numbered, free_number, name_beside}
+use Rattle.image_redact.specs.Laws.{NameLaw, ApartLaw}
 
 pub bytes_differ : (s t : List ℕ) → s ≢ t → bytes_eq s t ≡ false
 bytes_differ s t other = false_from_ne_true (bytes_eq s t) (λ same. other ((bytes_eq-Decides s t).0 same))
@@ -16,66 +17,137 @@ bytes_differ s t other = false_from_ne_true (bytes_eq s t) (λ same. other ((byt
 same_number : (m n : ℕ) → m < 2 ^ 64 → n < 2 ^ 64 → numbered m ≡ numbered n → m ≡ n
 same_number m n small_m small_n same = decimal_injective m n small_m small_n (ap (drop 1) same)
 
--- ---- which of the two numbers it has
+-- ---- the names but one that is such
 
-by_test : (b : Bool) (kept : List ℕ) (n : ℕ) → bytes_eq kept (numbered n) ≡ b
-    → (name_beside kept n ≡ numbered n) ⊎ (name_beside kept n ≡ numbered (n + 32))
+abbrev without : List ℕ → List (List ℕ) → List (List ℕ)
+without name [] = []
+without name (x ∷ xs) = if bytes_eq x name then xs else x ∷ without name xs
+
+one_less : (name : List ℕ) (xs : List (List ℕ)) → is_taken xs name ≡ true → length (without name xs) + 1 ≡ length xs
+one_less name [] taken = absurd (true≢false (sym taken))
+one_less name (x ∷ xs) taken = by_test (bytes_eq x name) refl (one_less name xs)
+  where
+    by_test : (b : Bool) → bytes_eq x name ≡ b → (is_taken xs name ≡ true → length (without name xs) + 1 ≡ length xs)
+        → length (without name (x ∷ xs)) + 1 ≡ length (x ∷ xs)
+    by_test true e rest = rw e (omega arith)
+    by_test false e rest = let less = rest (rw e at taken) in rw e (omega (arith, less))
+
+still_taken : (name other : List ℕ) (xs : List (List ℕ)) → other ≢ name → is_taken xs other ≡ true
+    → is_taken (without name xs) other ≡ true
+still_taken name other [] apart taken = taken
+still_taken name other (x ∷ xs) apart taken =
+    by_test (bytes_eq x name) (bytes_eq x other) refl refl (still_taken name other xs apart)
+  where
+    by_test : (b c : Bool) → bytes_eq x name ≡ b → bytes_eq x other ≡ c
+        → (is_taken xs other ≡ true → is_taken (without name xs) other ≡ true)
+        → is_taken (without name (x ∷ xs)) other ≡ true
+    by_test true true e f rest =
+        absurd (apart (sym ((bytes_eq-Decides x other).0 f) ∙ (bytes_eq-Decides x name).0 e))
+    by_test true false e f rest = let left : is_taken xs other ≡ true = rw f at taken in rw e left
+    by_test false true e f rest = rw (e, f) refl
+    by_test false false e f rest = rw (e, f) (rest (rw f at taken))
+
+-- ---- of more numbers than there are names taken, one is free
+
+-- the number of so many tries from n on
+record IsFree (taken : List (List ℕ)) (more n : ℕ) : Type 0 where
+  times : ℕ
+  is : free_number taken more n ≡ n + 32 * times
+  free : is_taken taken (numbered (n + 32 * times)) ≡ false
+  least : (k : ℕ) → k < times → is_taken taken (numbered (n + 32 * k)) ≡ true
+  few : times < more
+
+-- the names that are taken by numbers from n on are all among these, which are fewer than the tries
+abbrev IsIn : List (List ℕ) → ℕ → Type 0
+IsIn names m = is_taken names (numbered m) ≡ true
+
+-- the names that are taken by numbers from n on are all among some
+abbrev Among : List (List ℕ) → List (List ℕ) → ℕ → Type 0
+Among taken left n = (m : ℕ) → n ≤ m → m < 2 ^ 64 → IsIn taken m → IsIn left m
+
+one_fewer : (taken left : List (List ℕ)) (n : ℕ) → n < 2 ^ 64 → Among taken left n
+    → Among taken (without (numbered n) left) (n + 32)
+one_fewer taken left n small among m after low its =
+    still_taken (numbered n) (numbered m) left
+    (λ equal. (let is_n = same_number m n low small equal in absurd (omega (arith, is_n, after))))
+    (among m (omega (arith, after)) low its)
+
+at_once : (taken : List (List ℕ)) (more n : ℕ) → is_taken taken (numbered n) ≡ false → IsFree taken (suc more) n
+unfolding free_number
+at_once taken more n e =
+    let same : n + 32 * 0 ≡ n = omega arith in
+    record {
+      times = 0;
+      is = rw e (sym same);
+      free = ap (λ m. is_taken taken (numbered m)) same ∙ e;
+      least = λ k l. absurd (omega (arith, l));
+      few = omega arith;
+    }
+
+later : (taken : List (List ℕ)) (more n : ℕ) → IsIn taken n → IsFree taken more (n + 32) → IsFree taken (suc more) n
+unfolding free_number
+later taken more n e rest = record {
+  times = suc rest.times;
+  is = rw e (rest.is ∙ next rest.times);
+  free = ap (λ m. is_taken taken (numbered m)) (sym (next rest.times)) ∙ rest.free;
+  least = each;
+  few = (let few = rest.few in omega (arith, few));
+}
+  where
+    next : (k : ℕ) → n + 32 + 32 * k ≡ n + 32 * suc k
+    next k = omega arith
+
+    each : (k : ℕ) → k < suc rest.times → IsIn taken (n + 32 * k)
+    each zero l = let same : n + 32 * 0 ≡ n = omega arith in ap (λ m. is_taken taken (numbered m)) same ∙ e
+    each (suc k) l = ap (λ m. is_taken taken (numbered m)) (sym (next k)) ∙ rest.least k (omega (arith, l))
+
+-- those are fewer than the tries
+found : (taken left : List (List ℕ)) (more n : ℕ) → length left < more → n + 32 * more < 2 ^ 64 → Among taken left n
+    → IsFree taken more n
+found taken left zero n short small among = absurd (omega (arith, short))
+found taken left (suc more) n short small among = elim (cases_Bool (is_taken taken (numbered n))) [
+  | inr free ↦ at_once taken more n free
+  | inl e ↦
+      let low : n < 2 ^ 64 = omega (arith, small) in
+      let less = one_less (numbered n) left (among n (omega arith) low e) in
+      later taken more n e
+      (found taken (without (numbered n) left) more (n + 32) (omega (arith, less, short)) (omega (arith, small))
+      (one_fewer taken left n low among))
+]
+
+pub name_law : NameLaw
 unfolding name_beside
-by_test true kept n e = inr (rw e refl)
-by_test false kept n e = inl (rw e refl)
+name_law taken n few below =
+    let it = found taken taken (length taken + 1) n (omega arith) (omega (arith, few, below)) (λ m after low is. is) in
+    let is = ap numbered it.is in
+    let times = it.few in
+    record {
+      times = it.times;
+      is = is;
+      free = ap (is_taken taken) is ∙ it.free;
+      least = it.least;
+      few = omega (arith, times);
+    }
 
-either_number : (kept : List ℕ) (n : ℕ)
-    → (name_beside kept n ≡ numbered n) ⊎ (name_beside kept n ≡ numbered (n + 32))
-either_number kept n = by_test (bytes_eq kept (numbered n)) kept n refl
+-- ---- none is a kept one's
 
--- ---- none is the kept one's
-
-not_kept_by : (b : Bool) (kept : List ℕ) (n : ℕ) → n < 32 → bytes_eq kept (numbered n) ≡ b
-    → name_beside kept n ≢ kept
-unfolding name_beside
-not_kept_by true kept n few e same =
-    let taken : kept ≡ numbered n = (bytes_eq-Decides kept (numbered n)).0 e in
-    let here : numbered (n + 32) ≡ kept = rw e at same in
-    let equal = same_number (n + 32) n (omega (arith, few)) (omega (arith, few)) (here ∙ taken) in
-    absurd (omega (arith, equal))
-not_kept_by false kept n few e same =
-    let here : numbered n ≡ kept = rw e at same in
-    absurd (true≢false (sym ((bytes_eq-Decides kept (numbered n)).1 (sym here)) ∙ e))
-
-pub not_kept : (kept : List ℕ) (n : ℕ) → n < 32 → name_beside kept n ≢ kept
-not_kept kept n few = not_kept_by (bytes_eq kept (numbered n)) kept n few refl
+pub not_taken : (taken : List (List ℕ)) (n : ℕ) (x : List ℕ) → length taken ≤ 32 → n < 32 → is_taken taken x ≡ true
+    → name_beside taken n ≢ x
+not_taken taken n x few below is same =
+    true≢false (sym is ∙ ap (is_taken taken) (sym same) ∙ (name_law taken n few below).free)
 
 -- ---- no two are the same
 
-module _ (kept : List ℕ) (m n : ℕ) (few_m : m < 32) (few_n : n < 32) (other : m ≢ n)
-    (same : name_beside kept m ≡ name_beside kept n) where
-  clash : (a b : ℕ) → (a ≡ m) ⊎ (a ≡ m + 32) → (b ≡ n) ⊎ (b ≡ n + 32) → name_beside kept m ≡ numbered a
-      → name_beside kept n ≡ numbered b → ⊥
-  clash a b (inl of_m) (inl of_n) is_a is_b =
-      let e = same_number a b (omega (arith, few_m, of_m)) (omega (arith, few_n, of_n)) (sym is_a ∙ same ∙ is_b) in
-      other (omega (arith, e, of_m, of_n))
-  clash a b (inl of_m) (inr of_n) is_a is_b =
-      let e = same_number a b (omega (arith, few_m, of_m)) (omega (arith, few_n, of_n)) (sym is_a ∙ same ∙ is_b) in
-      absurd (omega (arith, e, of_m, of_n, few_m, few_n))
-  clash a b (inr of_m) (inl of_n) is_a is_b =
-      let e = same_number a b (omega (arith, few_m, of_m)) (omega (arith, few_n, of_n)) (sym is_a ∙ same ∙ is_b) in
-      absurd (omega (arith, e, of_m, of_n, few_m, few_n))
-  clash a b (inr of_m) (inr of_n) is_a is_b =
-      let e = same_number a b (omega (arith, few_m, of_m)) (omega (arith, few_n, of_n)) (sym is_a ∙ same ∙ is_b) in
-      other (omega (arith, e, of_m, of_n))
-
-  clash_of : (name_beside kept m ≡ numbered m) ⊎ (name_beside kept m ≡ numbered (m + 32))
-      → (name_beside kept n ≡ numbered n) ⊎ (name_beside kept n ≡ numbered (n + 32)) → ⊥
-  clash_of (inl a) (inl b) = clash m n (inl refl) (inl refl) a b
-  clash_of (inl a) (inr b) = clash m (n + 32) (inl refl) (inr refl) a b
-  clash_of (inr a) (inl b) = clash (m + 32) n (inr refl) (inl refl) a b
-  clash_of (inr a) (inr b) = clash (m + 32) (n + 32) (inr refl) (inr refl) a b
-
-  never_same : ⊥
-  never_same = clash_of (either_number kept m) (either_number kept n)
-
-pub apart : (kept : List ℕ) (m n : ℕ) → m < 32 → n < 32 → m ≢ n → name_beside kept m ≢ name_beside kept n
-apart kept m n few_m few_n other same = never_same kept m n few_m few_n other same
+pub apart_law : ApartLaw
+apart_law taken m n few below_m below_n other same =
+    let a = name_law taken m few below_m in
+    let b = name_law taken n few below_n in
+    let few_a = a.few in
+    let few_b = b.few in
+    let equal =
+    same_number (m + 32 * a.times) (n + 32 * b.times) (omega (arith, few, below_m, few_a)) (omega (arith, few, below_n, few_b))
+    (sym a.is ∙ same ∙ b.is) in
+    other (omega (arith, equal, below_m, below_n))
 
 -- ---- each is a name
 
@@ -93,16 +165,57 @@ below p (suc m) all n l =
       | inr there ↦ let less : n < m = grind (arith, nat_tests, there, l) in below p m both.1 n less
     ]
 
-first_64 : all_below (λ n. is_name (numbered n)) 64 ≡ true
+first_ones : all_below (λ n. is_name (numbered n)) 1056 ≡ true
 unfolding all_below digits
-first_64 = refl
+first_ones = refl
 
-is_name_by : (kept : List ℕ) (n : ℕ) → n < 32
-    → (name_beside kept n ≡ numbered n) ⊎ (name_beside kept n ≡ numbered (n + 32))
-    → is_name (name_beside kept n) ≡ true
-is_name_by kept n few (inl is) = ap is_name is ∙ below (λ k. is_name (numbered k)) 64 first_64 n (omega (arith, few))
-is_name_by kept n few (inr is) =
-    ap is_name is ∙ below (λ k. is_name (numbered k)) 64 first_64 (n + 32) (omega (arith, few))
+pub a_name : (taken : List (List ℕ)) (n : ℕ) → length taken ≤ 32 → n < 32 → is_name (name_beside taken n) ≡ true
+a_name taken n few low =
+    let it = name_law taken n few low in
+    let times = it.few in
+    ap is_name it.is
+    ∙ below (λ k. is_name (numbered k)) 1056 first_ones (n + 32 * it.times) (omega (arith, few, low, times))
 
-pub a_name : (kept : List ℕ) (n : ℕ) → n < 32 → is_name (name_beside kept n) ≡ true
-a_name kept n few = is_name_by kept n few (either_number kept n)
+-- ---- one try after the other
+
+-- k numbers were tried, and this one is next
+pub record AreTried (taken : List (List ℕ)) (n k number : ℕ) : Type 0 where
+  pub few : k ≤ length taken + 1
+  pub next : number ≡ n + 32 * k
+  pub rest : (more : ℕ) → k + more ≡ length taken + 1
+      → free_number taken more number ≡ free_number taken (length taken + 1) n
+
+pub none_tried : (taken : List (List ℕ)) (n : ℕ) → AreTried taken n 0 n
+none_tried taken n = record {
+  few = omega arith;
+  next = omega arith;
+  rest = λ more all. ap (λ m. free_number taken m n) (let e : more ≡ length taken + 1 = omega (arith, all) in e);
+}
+
+pub more_tried : (taken : List (List ℕ)) (n k number : ℕ) → k < length taken + 1 → is_taken taken (numbered number) ≡ true
+    → AreTried taken n k number → AreTried taken n (k + 1) (number + 32)
+unfolding free_number
+more_tried taken n k number less is h = record {
+  few = omega (arith, less);
+  next = (let next = h.next in omega (arith, next));
+  rest = λ more all. sym (first more) ∙ h.rest (suc more) (omega (arith, all));
+}
+  where
+    first : (more : ℕ) → free_number taken (suc more) number ≡ free_number taken more (number + 32)
+    first more = rw is refl
+
+pub free_tried : (taken : List (List ℕ)) (n k number : ℕ) → k < length taken + 1 → is_taken taken (numbered number) ≡ false
+    → AreTried taken n k number → numbered number ≡ name_beside taken n
+unfolding free_number name_beside
+free_tried taken n k number less is h =
+    ap numbered (sym first ∙ h.rest (suc (length taken - k)) (omega (arith, less)))
+  where
+    first : free_number taken (suc (length taken - k)) number ≡ number
+    first = rw is refl
+
+pub all_tried : (taken : List (List ℕ)) (n k number : ℕ) → length taken + 1 ≤ k → AreTried taken n k number
+    → numbered number ≡ name_beside taken n
+unfolding free_number name_beside
+all_tried taken n k number end h =
+    let few = h.few in
+    ap numbered (h.rest 0 (omega (arith, end, few)))

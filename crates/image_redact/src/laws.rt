@@ -1,6 +1,18 @@
 // What holds of the record that a tenant may hold.
-ghost use Rattle.image_redact.specs.Laws.{AcceptedLaw, RangesLaw, AlikeLaw, AgainLaw, EmptiedLaw, SecretLaw};
-ghost use Rattle.image_redact.specs.Laws.{SeenAloneLaw, SeenLaw};
+ghost use Rattle.image_redact.specs.Laws.{KeptLaw, NameLaw, ApartLaw, AcceptedLaw, RangesLaw, AgainLaw};
+ghost use Rattle.image_redact.specs.Laws.{EmptiedLaw, SecretLaw, AlikeLaw, SeenAloneLaw, SeenLaw, SeenTogetherLaw};
+
+/// The domains are kept from which a chain of boxes leads to the tenant's own, and no others.
+pub fn kept()
+    ensures kept { KeptLaw }
+{}
+
+/// The others are called by their numbers, by no kept domain's name, and no two of them the
+/// same.
+pub fn named()
+    ensures named { NameLaw }
+    ensures apart { ApartLaw }
+{}
 
 /// The record breaks no rule where the one that it was made of breaks none, and stays in
 /// the ranges of the keys.
@@ -9,17 +21,18 @@ pub fn accepted()
     ensures ranges { RangesLaw }
 {}
 
-/// All domains may know the same of both records, and the kept domain has the same of its
+/// All domains may know the same of both records, and each kept domain has the same of its
 /// own in both.
 pub fn alike()
     ensures alike { AlikeLaw }
 {}
 
-/// What is seen of the kept domain is the same, alone and among the others, in whatever
-/// order the harts have their events.
+/// What is seen of the domain is the same: alone; among the others, where no box leads to it,
+/// in whatever order the harts have their events; and on one hart, whatever boxes do.
 pub fn seen()
     ensures alone { SeenAloneLaw }
     ensures among { SeenLaw }
+    ensures together { SeenTogetherLaw }
 {}
 
 /// Made of itself, it is itself.

@@ -1,12 +1,13 @@
-// The record of an image with all domains but one emptied.
-ghost use Rattle.std.specs.Prelude.{◌≡◌, ◌<◌, ◌≤◌, ◌∷◌, [], ◌^◌, length, map, option_map, string_bytes, IfOk, OnOk};
+// The record of an image with all domains emptied but those that are kept.
+ghost use Rattle.std.specs.Prelude.{◌≡◌, ◌<◌, ◌∷◌, [], ◌^◌, length, map, option_map, string_bytes, IfOk, OnOk};
 ghost use Rattle.image_record.specs.Models.{raw_model};
 ghost use Rattle.image_record.specs.Parts.{domain_model, segment_model};
 ghost use Rattle.image_redact.specs.Redacted as spec;
 
+use crate::keeping::kept_domains;
+use crate::naming::name_beside;
 use image_record::{Raw, RawDomain, RawSegment};
 use std::alloc::Global;
-use std::fmt::Write;
 use tp_base::Memory;
 
 /// The address at which an emptied domain begins.
@@ -15,11 +16,8 @@ const ENTRY: u32 = 0x1_0000;
 /// ADDI x17, x0, 0 and ECALL: it exits.
 const EXIT: &str = "9308000073000000";
 
-/// What is added to the number in a name, where the kept domain has that name.
-const ANOTHER: usize = 32;
-
-/// The record that the tenant of domain `d` may hold: of every other domain it has the
-/// place and the colours alone.
+/// The record that the tenant of domain `d` may hold: of every domain other than that one
+/// and those from which a chain of boxes leads to it, it has the place and the colours alone.
 ///
 /// # Errors
 ///
@@ -29,29 +27,51 @@ pub fn redacted(alloc: Global, mut raw: Raw, d: u8) -> Result<Raw, Memory>
     requires domain { d < length raw.domains.items }
     ensures made { IfOk result (λ r. raw_model r ≡ spec.redacted (raw_model raw) d) }
 {
-    let d = usize::from(d);
-    let kept = String::from_str(alloc, raw.domains[d].name.as_str())?;
-    let domains = all_but(alloc, raw.version, d, kept.as_str(), raw.domains)?;
+    let kept = kept_domains(alloc, &raw, usize::from(d))?;
+    let taken = names_of(alloc, kept.as_slice(), raw.domains.as_slice())?;
+    let domains = all_but(
+        alloc,
+        raw.version,
+        kept.as_slice(),
+        taken.as_slice(),
+        raw.domains,
+    )?;
     raw.domains = domains;
     Ok(raw)
 }
 
-// The domains, with all emptied but domain `d`, whose name is `kept`.
+// The names of the domains that are kept.
+fn names_of(alloc: Global, kept: &[bool], domains: &[RawDomain]) -> Result<Vec<String>, Memory>
+    requires each { length kept.now ≡ length domains.now }
+    ensures names { IfOk result (λ v. map (λ s. string_bytes s) v.items
+        ≡ spec.names_from kept.now 0 (map domain_model domains.now)) }
+{
+    let mut names = Vec::new(alloc);
+    for (e, domain) in domains.iter().enumerate() {
+        if kept[e] {
+            names.push(String::from_str(alloc, domain.name.as_str())?)?;
+        }
+    }
+    Ok(names)
+}
+
+// The domains, with all emptied but those that are kept.
 fn all_but(
     alloc: Global,
     version: u8,
-    d: usize,
-    kept: &str,
+    kept: &[bool],
+    taken: &[String],
     mut domains: Vec<RawDomain>,
 ) -> Result<Vec<RawDomain>, Memory>
+    requires each { length kept.now ≡ length domains.items }
     ensures made { IfOk result (λ v. map domain_model v.items
-        ≡ spec.redacted_from version d kept.now 0 (map domain_model domains.items)) }
+        ≡ spec.redacted_from version kept.now (map (λ s. string_bytes s) taken.now) 0 (map domain_model domains.items)) }
 {
     for n in 0..domains.len() {
-        if n == d {
+        if kept[n] {
             continue;
         }
-        empty(alloc, version, kept, n, &mut domains[n])?;
+        empty(alloc, version, taken, n, &mut domains[n])?;
     }
     Ok(domains)
 }
@@ -61,15 +81,15 @@ fn all_but(
 fn empty(
     alloc: Global,
     version: u8,
-    kept: &str,
+    taken: &[String],
     n: usize,
     domain: &mut RawDomain,
 ) -> Result<(), Memory>
     requires few { n < 2 ^ 63 }
     ensures emptied { OnOk result (domain_model domain.new
-        ≡ spec.emptied version kept.now n (domain_model domain.old)) }
+        ≡ spec.emptied version (map (λ s. string_bytes s) taken.now) n (domain_model domain.old)) }
 {
-    let name = name_beside(alloc, kept, n)?;
+    let name = name_beside(alloc, taken, n)?;
     let segments = exit_segments(alloc)?;
     let calls = exit_alone(alloc, version)?;
     domain.name = name;
@@ -80,29 +100,6 @@ fn empty(
     domain.moments.clear();
     domain.calls = calls;
     Ok(())
-}
-
-// The name of domain `n` beside the one that is kept.
-#[tactic(auto, unfolding(crate::specs::Redacted::name_beside))]
-fn name_beside(alloc: Global, kept: &str, n: usize) -> Result<String, Memory>
-    requires few { n < 2 ^ 63 }
-    ensures name { IfOk result (λ s. string_bytes s ≡ spec.name_beside kept.now n) }
-{
-    let name = numbered(alloc, n)?;
-    if kept != name.as_str() {
-        return Ok(name);
-    }
-    drop(name);
-    numbered(alloc, n + ANOTHER)
-}
-
-// `e` and a number.
-fn numbered(alloc: Global, number: usize) -> Result<String, Memory>
-    ensures name { IfOk result (λ s. string_bytes s ≡ spec.numbered number) }
-{
-    let mut name = String::new(alloc);
-    write!(name, "e{number}")?;
-    Ok(name)
 }
 
 // A page of a program that exits at once.

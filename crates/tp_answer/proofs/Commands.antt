@@ -33,7 +33,7 @@ use Rattle.tp_answer.specs.Answer.{Answer, answer, answer_of_bytes, answer_unles
 use Rattle.tp_answer.specs.Runs.{report, section_alone}
 use Rattle.tp_answer.proofs.Runs.{seen_mailed, seen_alone, within_pads, lines_within, apart, same_section}
 use Rattle.tp_answer.proofs.Accepting.{Found, found_in}
-use Rattle.tp_answer.proofs.Kept.{kept_accepted, same_alone, same_among}
+use Rattle.tp_answer.proofs.Kept.{kept_accepted, same_alone, same_among, same_together}
 use Rattle.tp_answer.specs.TopCall.{Writes, Delivers, MayBeUsage, ReadsImage, Refuses, Accepts, Bounds, Isolated, Padded, LacksDomain, WritesSection, SameSection, HasManyHarts, WritesOff, KeptReadsBack, Redacts, ReadsBack, Generates, Summarizes}
 use Rattle.tp_answer.proofs.Answers.{all_taken, over_taken, too_long_due, image_due, bytes_due, gen_due, demo_due, alone_due, lacks_due, off_due, many_due, kept_due, none_kept_due, of_chosen, usage_of, other_reads, is_few, is_over}
 
@@ -470,6 +470,7 @@ redacts d a h asked done back =
             accepted = kept_accepted a.items i d found.is found.unbroken;
             same_alone = λ n. same_alone i d n has;
             same_among = λ c n none. same_among a.items i d found.is found.unbroken has c n none;
+            same_together = λ c n one. same_together a.items i d found.is found.unbroken has c n one;
           }
       | inr lacks ↦
           let same = is.0 ∙ ap (λ (x : Answer). x.0) (none_kept_due d i lacks) in absurd (cc same)

@@ -11,7 +11,8 @@ use Rattle.image_check.specs.Image.{image_from}
 use Rattle.image_redact.specs.Redacted.{redacted}
 use Rattle.image_redact.proofs.Alike.{alike_law}
 use Rattle.image_redact.proofs.Kept.{accepted_law}
-use Rattle.image_redact.proofs.Seen.{seen_alone, runs, runs_too, here, there}
+use Rattle.image_redact.proofs.Leading.{itself_kept}
+use Rattle.image_redact.proofs.Seen.{seen_alone, seen_together, runs, runs_too, here, there}
 use Rattle.image_writing.specs.Text.{text_of}
 use Rattle.image_writing.specs.Writing.{IsWritable}
 use Rattle.image_writing.proofs.Writable.{writable_law}
@@ -19,6 +20,8 @@ use Rattle.world_view.specs.View.{View}
 use Rattle.hart_orders.specs.declared.choice.Choice.{Choice}
 use Rattle.std.specs.List.{All}
 use Rattle.image_check.specs.Public.{Public}
+use Rattle.sched_table.specs.Schedule.{harts_in}
+use Rattle.world_view.specs.Harts.{IsOnOneHart}
 use Rattle.world_view.specs.Relations.{HasNoMail}
 use Rattle.tp_report.specs.Texts.{section}
 use Rattle.tp_report.specs.Report.{section_of}
@@ -27,13 +30,14 @@ use Rattle.tp_answer.specs.Reading.{record_for}
 use Rattle.tp_answer.specs.TopCall.{KeptReadsBack}
 use Rattle.tp_answer.specs.Runs.{section_among, section_alone}
 use Rattle.tp_answer.proofs.Accepting.{value_or, found_in}
-use Rattle.tp_answer.proofs.Runs.{same_section}
+use Rattle.tp_answer.proofs.Runs.{same_section, seen_on_one}
 
 pub same_alone : (i : text.Raw) (d n : ℕ) → d < length i.domains
     → section_alone (image_from (redacted i d)) d n ≡ section_alone (image_from i) d n
 unfolding section_alone section_of
 same_alone i d n l =
-    ap₂ (λ (o : Own) (v : View). section d o.name v) (sym (alike_law i d l).own) (sym (seen_alone i d n l))
+    ap₂ (λ (o : Own) (v : View). section d o.name v) (sym ((alike_law i d).own d (itself_kept i d l)))
+    (sym (seen_alone i d n l))
 
 module _ (bytes : List ℕ) (i : text.Raw) (d : ℕ) (read : image_of bytes ≡ Ok i) (unbroken : broken i ≡ []) where
   pub kept_accepted : broken (redacted i d) ≡ []
@@ -47,8 +51,22 @@ module _ (bytes : List ℕ) (i : text.Raw) (d : ℕ) (read : image_of bytes ≡ 
       let own = same_section (image_from i) c n (runs i d ranges first unbroken l) d (here i d ranges first unbroken l) none in
       let kept =
       same_section (image_from (redacted i d)) c n (runs_too i d ranges first unbroken l) d
-      (there i d ranges first unbroken l) (subst (λ (p : Public). All (λ box. box.1 ≢ d) p.mail) (alike_law i d l).all none) in
+      (there i d ranges first unbroken l) (subst (λ (p : Public). All (λ box. box.1 ≢ d) p.mail) (alike_law i d).all none) in
       sym kept ∙ same_alone i d n l ∙ own
+
+  pub same_together : d < length i.domains → (c : Choice) (n : ℕ) → IsOnOneHart (image_from i)
+      → section_among (image_from (redacted i d)) c d n ≡ section_among (image_from i) c d n
+  unfolding section_of
+  same_together l c n one =
+      let x = image_from i in
+      let y = image_from (redacted i d) in
+      let ranges = ranges_law bytes i read in
+      let first = (writable_law bytes i read unbroken).first in
+      let one_too = subst (λ (p : Public). harts_in p.schedule ≡ 1) (alike_law i d).all one in
+      let own = seen_on_one x c n (runs i d ranges first unbroken l) one d in
+      let kept = seen_on_one y c n (runs_too i d ranges first unbroken l) one_too d in
+      ap₂ (λ (o : Own) (v : View). section d o.name v) (sym ((alike_law i d).own d (itself_kept i d l)))
+      (sym kept ∙ sym (seen_together i d n ranges first unbroken l one) ∙ own)
 
 -- ---- the record that bytes have
 

@@ -1,15 +1,15 @@
 -- What is seen after a run.
-use Rattle.std.proofs.Common.{◌≡◌, ℕ, ◌≤◌, sym, ap}
+use Rattle.std.proofs.Common.{◌≡◌, ℕ, ◌≤◌, sym, ap, ap₂}
 use Rattle.sched_table.specs.Schedule.{entry_in}
 use Rattle.image_check.specs.Image.{Image, own_of}
 use Rattle.image_check.specs.Laws.{Runnable}
-use Rattle.world_view.specs.View.{view_in}
+use Rattle.world_view.specs.View.{view, view_in, view_whole}
 use Rattle.world_view.specs.Used.{largest_of}
-use Rattle.world_view.specs.Harts.{view_mailed_on, view_alone_on}
+use Rattle.world_view.specs.Harts.{IsOnOneHart, view_mailed_on, view_alone_on}
 use Rattle.world_view.specs.Relations.{IsDomain, HasNoMail, AllWithinPads}
 use Rattle.hart_orders.specs.declared.choice.Choice.{Choice}
-use Rattle.hart_orders.proofs.ChoiceLaws.{choice_mail, choice_law, choice_pad, choice_largest}
-use Rattle.tp_report.specs.Report.{section_of, report_with, report_of}
+use Rattle.hart_orders.proofs.ChoiceLaws.{choice_mail, choice_law, choice_pad, choice_largest, one_hart_run}
+use Rattle.tp_report.specs.Report.{section_of}
 use Rattle.tp_report.specs.Texts.{section}
 use Rattle.tp_report.proofs.ReportLaws.{same_report}
 use Rattle.tp_answer.specs.Runs.{world_after, arrivals_after, report, report_apart, section_among, section_alone}
@@ -23,6 +23,13 @@ module _ (i : Image) (c : Choice) (n : ℕ) (r : Runnable i) where
   -- and where no box leads to it, with nothing
   pub seen_alone : (d : ℕ) → IsDomain i d → HasNoMail i d → view_in i d (world_after i c n) ≡ view_alone_on i d n
   seen_alone d is none = choice_law i c n d r is none
+
+  -- of an image of one hart as after so many slots of it, one after the other
+  pub seen_on_one : IsOnOneHart i → (d : ℕ) → view_whole i d n ≡ view_in i d (world_after i c n)
+  unfolding view_whole
+  seen_on_one one d =
+      let same = one_hart_run i c n r one in
+      ap₂ (view i.all.hardware (own_of i d)) (same.doms d) same.storage
 
   pub within_pads : AllWithinPads i.all.schedule (world_after i c n).used
   within_pads = choice_pad i c n r

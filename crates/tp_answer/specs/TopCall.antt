@@ -18,7 +18,7 @@ use Rattle.image_writing.specs.Text.{text_of}
 use Rattle.sched_table.specs.Schedule.{entry_in, harts_in}
 use Rattle.world_view.specs.Machine.{clock_of}
 use Rattle.world_view.specs.View.{view_in}
-use Rattle.world_view.specs.Harts.{progress_of, slots_of, start_on, next, harts, view_mailed_on, view_alone_on}
+use Rattle.world_view.specs.Harts.{IsOnOneHart, progress_of, slots_of, start_on, next, harts, view_mailed_on, view_alone_on}
 use Rattle.world_view.specs.HartLaws.{AreHartsOf}
 use Rattle.world_view.specs.Relations.{IsDomain, HasNoMail, AllWithinPads}
 use Rattle.world_view.specs.Used.{largest_of}
@@ -197,7 +197,8 @@ KeptReadsBack d bytes =
     (i : text.Raw) → image_of bytes ≡ Ok i → broken i ≡ [] → image_of (text_of (redacted i d)) ≡ Ok (redacted i d)
 
 -- the image breaks no rule and has domain d, and what was written reads as the record that its tenant may hold; that one
--- breaks no rule, either, and has the same section of the domain, alone and, where no box leads to it, in the report
+-- breaks no rule, either, and has the same section of the domain: alone; where no box leads to it in the report; and in that of
+-- an image of one hart whatever boxes do
 pub record Redacts (d : ℕ) (left left' written written' : Option (List ℕ)) : Type 0 where
   pub all : ReadsAll left left'
   pub record_of : text.Raw
@@ -210,6 +211,8 @@ pub record Redacts (d : ℕ) (left left' written written' : Option (List ℕ)) :
   pub same_alone : (slots : ℕ)
       → section_alone (image_from (redacted record_of d)) d slots ≡ section_alone (image_from record_of) d slots
   pub same_among : (c : Choice) (slots : ℕ) → HasNoMail (image_from record_of) d
+      → section_among (image_from (redacted record_of d)) c d slots ≡ section_among (image_from record_of) c d slots
+  pub same_together : (c : Choice) (slots : ℕ) → IsOnOneHart (image_from record_of)
       → section_among (image_from (redacted record_of d)) c d slots ≡ section_among (image_from record_of) c d slots
 
 -- ---- the image that a seed makes
