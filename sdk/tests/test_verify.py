@@ -90,12 +90,16 @@ def test_what_its_senders_tell_it_is_of_the_section(program: Program, tmp_path: 
     for name in ("stranger", "spy"):
         ended = run_tool("tp-verify", STORE, report, "--domain", name)
         assert (ended.returncode, ended.stdout) == (0, f"{name}: the section of 16 slots is the same\n")
-    # what the tenant holds has nothing of these
+    # what the tenant holds has these, too
     redacted = tmp_path / "friend.toml"
     redacted.write_text(program.run(["redact", "--domain", "0"], STORE.read_text()).text)
     ended = run_tool("tp-verify", redacted, report, "--domain", "friend")
+    assert (ended.returncode, ended.stdout) == (0, BESIDE.replace(f"{STORE}", f"{redacted}"))
+    other = tmp_path / "other.report"
+    other.write_text(report.read_text().replace("retired ", "retired 1", 1))
+    ended = run_tool("tp-verify", redacted, other, "--domain", "friend")
     assert ended.returncode == 1
-    assert ended.stdout.endswith(f" beside e1 and e2, as {redacted} has them\n")
+    assert ended.stdout.endswith(f" beside stranger and store, as {redacted} has them\n")
 
 
 def test_a_section_of_one_that_was_told_nothing(program: Program, tmp_path: Path) -> None:
